@@ -1,0 +1,1 @@
+// The lexemes of a text.

@@ -1,0 +1,25 @@
+// The limits of document 01. Each stands here and nowhere else: code and contracts read it from here.
+pub struct Limits {}
+
+impl Limits {
+    // Bytes of a text: refusal 1.
+    pub const TEXT: usize = 16384;
+
+    // Letters of a letter word: refusal 3.
+    pub const WORD: usize = 32;
+
+    // Bytes between a string's quotes: refusal 3.
+    pub const STRING: usize = 255;
+
+    // The value of a literal: refusal 3.
+    pub const LITERAL: u32 = 2147483647;
+
+    // Nestings open at once: refusal 5.
+    pub const NESTING: usize = 32;
+
+    // Declarations of a text: refusal 7.
+    pub const DECLARATIONS: usize = 64;
+
+    // Instructions of a text's code: refusal 8.
+    pub const INSTRUCTIONS: usize = 4096;
+}

@@ -1,0 +1,1 @@
+// The machine: any code table, one numbered ending.
