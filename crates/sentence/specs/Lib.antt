@@ -1,0 +1,3 @@
+pub mod Sentences
+pub mod Grammar
+pub mod Reader

@@ -1,0 +1,1 @@
+// The sentences of O: definitions and what is proved of them; the reader itself is in the compiler.
