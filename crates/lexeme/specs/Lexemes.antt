@@ -5,7 +5,7 @@ use Prim.Native.Nat.{ℕ, zero, suc, _+_, _-_, _*_}
 use Prim.Native.Char.{code}
 use lib.Dec.{leb, ltb, eqb}
 use lib.ListN.{length, drop}
-use Rattle.limits.specs.Limits.{Limits}
+use Rattle.limits.specs.Limits.{Sizes}
 use Rattle.lexeme.specs.Answers.{Answer, given, refused, pass}
 use Rattle.lexeme.specs.Bytes.{bytes, separator, small, letter, digit, letter-or-digit, no-quote, run, all, same}
 
@@ -105,15 +105,15 @@ unfoldable pub value : ℕ → List ℕ → ℕ
 value n [] = n
 value n (b ∷ w) = value (n * 10 + (b - 48)) w
 
-module _ (lim : Limits) where
+module _ (sizes : Sizes) where
   unfoldable pub letter-word : ℕ → List ℕ → Answer Next
   letter-word p w =
-      cond (ltb (lim .word) (length w)) (refused 3 p)
+      cond (ltb (sizes .word) (length w)) (refused 3 p)
       (found p (cond (starts-small w) (name (record { letters = w; place = p })) (capital-word keywords p w)) (p + length w))
 
   unfoldable pub digit-word : ℕ → List ℕ → Answer Next
   digit-word p w =
-      cond (ltb (lim .literal) (value 0 w)) (refused 3 p)
+      cond (ltb (sizes .literal) (value 0 w)) (refused 3 p)
       (found p (lit (value 0 w)) (p + length w))
 
   -- a word at the place p: all letters, or all digits; a mixed word is refused
@@ -130,7 +130,7 @@ module _ (lim : Limits) where
   string-at p s =
       let inside = run no-quote s in
       cond (leb (length s) (length inside)) (refused 2 p)
-      (cond (ltb (lim .string) (length inside)) (refused 3 p)
+      (cond (ltb (sizes .string) (length inside)) (refused 3 p)
       (found p (string (record { inside = inside; place = p + 1 })) (p + length inside + 2)))
 
 pub record Symbol : Type 0 where
@@ -169,13 +169,13 @@ colon p (b ∷ s) = cond (eqb b 61) (found p (fixed becomes) (p + 2)) (refused 2
 
 -- ---- a whole text
 
-module _ (lim : Limits) where
+module _ (sizes : Sizes) where
   -- what begins at the place p, where no separator stands
   unfoldable pub here : ℕ → List ℕ → Answer Next
   here p [] = given nothing
   here p (b ∷ s) =
-      cond (letter-or-digit b) (word lim p (run letter-or-digit (b ∷ s)))
-      (cond (eqb b 34) (string-at lim p s)
+      cond (letter-or-digit b) (word sizes p (run letter-or-digit (b ∷ s)))
+      (cond (eqb b 34) (string-at sizes p s)
       (cond (eqb b 58) (colon p s)
       (symbol symbols p b)))
 
@@ -185,11 +185,11 @@ module _ (lim : Limits) where
 
 -- ---- all lexemes of a text, or its leftmost refusal of 2 and 3
 
-module _ (lim : Limits) (text : List ℕ) where
+module _ (sizes : Sizes) (text : List ℕ) where
   -- from a place on, with more fuel than bytes left
   unfoldable pub lexemes-from : ℕ → ℕ → Answer (List Placed)
   lexemes-from zero at = given []
-  lexemes-from (suc fuel) at = pass (next lim text at) λ n. elim n [
+  lexemes-from (suc fuel) at = pass (next sizes text at) λ n. elim n [
     | lexeme l e ↦ pass (lexemes-from fuel e) (λ ls. given (l ∷ ls))
     | nothing ↦ given (record { place = length text; what = fixed end } ∷ [])
   ]

@@ -1,0 +1,1 @@
+// The compiler: a text and a lent code table to an answer.

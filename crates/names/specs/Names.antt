@@ -1,0 +1,87 @@
+-- Document 01, "Sentences", on names, and refusals 6 and 7: a tree over names becomes a tree over cells.
+use mathlib.Core.List.{List, [], _∷_}
+use mathlib.Core.Bool.{Bool, true, false, cond}
+use Prim.Native.Nat.{ℕ, suc}
+use lib.Dec.{ltb}
+use Rattle.lexeme.specs.Answers.{Answer, given, refused, pass}
+use Rattle.lexeme.specs.Bytes.{same}
+use Rattle.lexeme.specs.Lexemes.{Name}
+use Rattle.sentence.specs.Sentences.{Kind, Sen, command, literal, variable, bracket, first, multiply, unsigned, signed, add, negated, compare, print, print-line, print-string, declare, input, assign, error, while, when, block, single, then}
+
+-- a declaration: its letters and its cell
+pub record Declaration : Type 0 where
+  pub letters : List ℕ
+  pub cell : ℕ
+
+-- the declarations still visible, the latest first, and how many the text has had so far
+pub record Scope : Type 0 where
+  pub visible : List Declaration
+  pub declared : ℕ
+
+abbrev pub nothing-declared : Scope
+nothing-declared = record { visible = []; declared = 0 }
+
+-- what is worked out in a scope, with the scope after it
+pub record Known (A : Type 0) : Type 0 where
+  pub what : A
+  pub scope : Scope
+
+abbrev pub Naming : Type 0 → Type 0
+Naming A = Scope → Answer (Known A)
+
+infixl 20 _>>=_
+unfoldable pub _>>=_ : {A B : Type 0} → Naming A → (A → Naming B) → Naming B
+_>>=_ m f = λ s. pass (m s) (λ a. f (a .what) (a .scope))
+
+unfoldable pub give : {A : Type 0} → A → Naming A
+give a = λ s. given (record { what = a; scope = s })
+
+-- the latest declaration of the name that is still visible
+unfoldable pub look-up : List Declaration → Name → Naming ℕ
+look-up [] x s = refused 6 (x .place)
+look-up (d ∷ ds) x s = elim (same (d .letters) (x .letters)) [ true ↦ given (record { what = d .cell; scope = s }) | false ↦ look-up ds x s ]
+
+unfoldable pub used : Name → Naming ℕ
+used x = λ s. look-up (s .visible) x s
+
+-- the declarations with one more in front
+unfoldable pub one-more : Name → Scope → Scope
+one-more x s = record { visible = record { letters = x .letters; cell = s .declared } ∷ s .visible; declared = suc (s .declared) }
+
+-- cell k, counted from 0, belongs to the k-th declaration in the text; cells aren't shared
+unfoldable pub declared-here : ℕ → Name → Naming ℕ
+declared-here limit x = λ s. cond (ltb (s .declared) limit) (given (record { what = s .declared; scope = one-more x s })) (refused 7 (x .place))
+
+-- a scope is opened only by a brace, and its declarations vanish at the closing brace
+unfoldable pub scoped : {A : Type 0} → Naming A → Naming A
+scoped m = λ s. pass (m s) (λ a. given (record { what = a .what; scope = record { visible = s .visible; declared = a .scope .declared } }))
+
+module _ (limit : ℕ) where
+  -- from left to right, so that the leftmost of 6 and 7 is given
+  unfoldable pub resolve : {k : Kind} → Sen Name k → Naming (Sen ℕ k)
+  resolve (literal n) = give (literal n)
+  resolve (variable x) = do c ← used x; give (variable c)
+  resolve (bracket e) = do e′ ← resolve e; give (bracket e′)
+  resolve (first f) = do f′ ← resolve f; give (first f′)
+  resolve (multiply t o f) = do t′ ← resolve t; f′ ← resolve f; give (multiply t′ o f′)
+  resolve (unsigned t) = do t′ ← resolve t; give (unsigned t′)
+  resolve (signed g t) = do t′ ← resolve t; give (signed g t′)
+  resolve (add e g t) = do e′ ← resolve e; t′ ← resolve t; give (add e′ g t′)
+  resolve (negated c) = do c′ ← resolve c; give (negated c′)
+  resolve (compare d r e) = do d′ ← resolve d; e′ ← resolve e; give (compare d′ r e′)
+  resolve (print e) = do e′ ← resolve e; give (print e′)
+  resolve (print-line q) = give (print-line q)
+  resolve (print-string q) = give (print-string q)
+  resolve (declare x) = do c ← declared-here limit x; give (declare c)
+  resolve (input x) = do c ← used x; give (input c)
+  resolve (assign x e) = do c ← used x; e′ ← resolve e; give (assign c e′)
+  resolve error = give error
+  resolve (while c m) = do c′ ← resolve c; m′ ← resolve m; give (while c′ m′)
+  resolve (when c m) = do c′ ← resolve c; m′ ← resolve m; give (when c′ m′)
+  resolve (block ms) = do ms′ ← scoped (resolve ms); give (block ms′)
+  resolve (single m) = do m′ ← resolve m; give (single m′)
+  resolve (then ms m) = do ms′ ← resolve ms; m′ ← resolve m; give (then ms′ m′)
+
+  -- a Program's command over cells, and how many cells there are
+  unfoldable pub resolved : Sen Name command → Answer (Known (Sen ℕ command))
+  resolved m = resolve m nothing-declared
