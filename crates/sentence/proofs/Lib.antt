@@ -1,2 +1,4 @@
 pub mod Codes
 pub mod Walk
+pub mod Had
+pub mod Steps

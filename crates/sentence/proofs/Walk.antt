@@ -15,9 +15,12 @@ use Rattle.sentence.specs.Reader.{Verdict, verdict, goes-on, is-whole, b
 
 -- ---- the walk
 
+unfoldable pub closes : Lexeme → Bool
+closes l = is close-round l || is close-brace l
+
 -- a lexeme that closes a nesting still stands in it
 unfoldable pub nested-at : Lexeme → Verdict → ℕ
-nested-at l (goes-on d) = cond (is close-round l || is close-brace l) (suc d) d
+nested-at l (goes-on d) = cond (closes l) (suc d) d
 nested-at l (is-whole m) = 0
 nested-at l begins-none = 0
 
@@ -57,7 +60,7 @@ Reads condition c = (k : Around condition) (l : Lexeme) (ls : List Lexeme) → N
 Reads command m = (k : Around command) (l : Lexeme) (ls : List Lexeme) → No-mul l → No-sign l → walk (want-command k) (spell m ++ l ∷ ls) ≡ after (nestings (depth k) m) (walk-by l (after-command m k l) ls)
 Reads commands ms = (k : Around command) (l : Lexeme) (ls : List Lexeme) → No-mul l → No-sign l → walk (want-command (in-block k)) (spell ms ++ l ∷ ls) ≡ after (nestings (suc (depth k)) ms) (walk-by l (at-command-or-brace ms k l) ls)
 
-factor-open : (f : Sen Name factor) (k : Around factor) → verdict (got-factor f k) ≡ goes-on (depth k)
+pub factor-open : (f : Sen Name factor) (k : Around factor) → verdict (got-factor f k) ≡ goes-on (depth k)
 unfolding got-factor verdict depth
 factor-open f (in-first k) = refl
 factor-open f (in-multiply t o k) = refl
@@ -111,7 +114,7 @@ begun (when c m) = by-word IF _ _ refl (λ s t. refl)
 begun (block ms) = by-word open-brace _ _ refl (λ s t. refl)
 
 reads : {k : Kind} (x : Sen Name k) → Reads k x
-unfolding Reads spell nestings depth walk went after nested-at verdict step at-factor at-expression at-condition at-command at-command-or-brace after-command after-condition whole-expression after-expression whole-term after-term got-factor on on-lit on-name on-string on-sign on-mul on-rel is code-of
+unfolding Reads spell nestings depth walk went after nested-at closes verdict step at-factor at-expression at-condition at-command at-command-or-brace after-command after-condition whole-expression after-expression whole-term after-term got-factor on on-lit on-name on-string on-sign on-mul on-rel is code-of
 reads (literal n) = λ k ls. rw (factor-open (literal n) k)
 reads (variable x) = λ k ls. rw (factor-open (variable x) k)
 reads (bracket e) = λ k ls. simp append-assoc (rw (reads e (in-bracket k) (fixed close-round) ls (λ f s. refl), factor-open (bracket e) k))
@@ -142,5 +145,5 @@ reads (then ms m) = λ k l ls h g.
 
 -- every Program is read, and its lexemes stand in the nestings that Sentences.antt says
 pub complete : (m : Sen Name command) → walk want-DO (program m ++ fixed end ∷ []) ≡ record { state = whole m; nested = program-nestings m ++ 0 ∷ [] }
-unfolding Reads program program-nestings walk went after nested-at verdict depth step after-command on on-mul on-sign is code-of
+unfolding Reads program program-nestings walk went after nested-at closes verdict depth step after-command on on-mul on-sign is code-of
 complete m = rw (reads m in-program (fixed end) [] (λ f s. refl) (λ f s. refl))
