@@ -2,3 +2,4 @@ pub mod Codes
 pub mod Walk
 pub mod Had
 pub mod Steps
+pub mod Begins
