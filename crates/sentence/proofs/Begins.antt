@@ -10,7 +10,7 @@ use Rattle.sentence.specs.Grammar.{Whole, Begins}
 use Rattle.sentence.specs.Reader.{Around, in-first, in-multiply, in-unsigned, in-signed, in-add, in-bracket, in-left, in-right, in-print, in-assign, in-negated, in-while, in-when, in-while-body, in-when-body, in-block, in-block-after, in-program}
 use Rattle.sentence.specs.Reader.{State, want-DO, want-factor, want-expression, want-condition, want-command, want-line, want-string, want-declared, want-read, want-becomes, got-term, got-command, whole, nowhere, step}
 use Rattle.sentence.specs.Reader.{Verdict, verdict, goes-on, is-whole, begins-none}
-use Rattle.sentence.proofs.Walk.{Walked, walk, went, after, complete}
+use Rattle.sentence.proofs.Walk.{Walked, walk, went, after, complete, walk-append}
 use Rattle.sentence.proofs.Had.{before, had, alive-at, Alive, Good}
 use Rattle.sentence.proofs.Steps.{good-step}
 
@@ -127,11 +127,6 @@ state-begins nowhere a = absurd a
 pub viable : (ls : List Lexeme) → Alive (walk want-DO ls .state) → Begins ls
 unfolding had
 viable ls a = subst Begins (fed want-DO ls a) (state-begins (walk want-DO ls .state) a)
-
-walk-append : (s : State) (xs ys : List Lexeme) → walk s (xs ++ ys) ≡ after (walk s xs .nested) (walk (walk s xs .state) ys)
-unfolding walk went after
-walk-append s [] ys = refl
-walk-append s (x ∷ xs) ys = ap (went x (step s x)) (walk-append (step s x) xs ys)
 
 pub begins→alive : (ls : List Lexeme) → Begins ls → Alive (walk want-DO ls .state)
 unfolding Begins Whole after alive-at verdict

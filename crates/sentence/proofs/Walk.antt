@@ -39,6 +39,11 @@ walk s (l ∷ ls) = went l (step s l) (walk (step s l) ls)
 unfoldable pub after : List ℕ → Walked → Walked
 after ns w = record { state = w .state; nested = ns ++ w .nested }
 
+pub walk-append : (s : State) (xs ys : List Lexeme) → walk s (xs ++ ys) ≡ after (walk s xs .nested) (walk (walk s xs .state) ys)
+unfolding walk went after
+walk-append s [] ys = refl
+walk-append s (x ∷ xs) ys = ap (went x (step s x)) (walk-append (step s x) xs ys)
+
 -- ---- every sentence is read
 
 -- the lexeme goes on no term; and no expression either
