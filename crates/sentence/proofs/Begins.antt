@@ -1,17 +1,16 @@
 -- The reader is at some state other than `nowhere` exactly where a Program begins with what it was fed.
 use mathlib.Core.Path.{_≡_, refl, sym, ap, _∙_, subst}
 use mathlib.Core.List.{List, [], _∷_, _++_, append-assoc, append-nil}
-use mathlib.Core.Bool.{true, false}
 use lib.Dec.{T}
-use Rattle.lexeme.specs.Lexemes.{Name, Quoted, Lexeme, less, lit, name, string, sign, mul, rel, fixed, close-round, close-brace, open-round, open-brace, becomes, DO, ERROR, IF, INT, NOT, PRINTI, PRINTLNS, PRINTS, READ, THEN, WHILE, end}
-use Rattle.sentence.specs.Sentences.{Kind, Sen, factor, term, expression, condition, command, commands, literal, bracket, first, multiply, unsigned, signed, add, negated, compare, print, print-line, print-string, declare, input, assign, error, while, when, block, single, then}
+use Rattle.lexeme.specs.Lexemes.{Name, Quoted, Lexeme, less, lit, name, string, rel, fixed, close-round, close-brace, becomes, DO, ERROR, THEN, end}
+use Rattle.sentence.specs.Sentences.{Kind, Sen, expression, command, literal, bracket, first, multiply, unsigned, signed, add, negated, compare, print, print-line, print-string, declare, input, assign, error, while, when, block, single, then}
 use Rattle.sentence.specs.Sentences.{spell, program}
 use Rattle.sentence.specs.Grammar.{Whole, Begins}
 use Rattle.sentence.specs.Reader.{Around, in-first, in-multiply, in-unsigned, in-signed, in-add, in-bracket, in-left, in-right, in-print, in-assign, in-negated, in-while, in-when, in-while-body, in-when-body, in-block, in-block-after, in-program}
 use Rattle.sentence.specs.Reader.{State, want-DO, want-factor, want-expression, want-condition, want-command, want-line, want-string, want-declared, want-read, want-becomes, got-term, got-command, whole, nowhere, step}
 use Rattle.sentence.specs.Reader.{Verdict, verdict, goes-on, is-whole, begins-none}
-use Rattle.sentence.proofs.Walk.{Walked, walk, went, after, complete, walk-append}
-use Rattle.sentence.proofs.Had.{before, had, alive-at, Alive, Good}
+use Rattle.sentence.proofs.Walk.{walk, went, after, complete, walk-append}
+use Rattle.sentence.proofs.Had.{before, had, alive-at, Alive}
 use Rattle.sentence.proofs.Steps.{good-step}
 
 -- ---- what was read is what was fed

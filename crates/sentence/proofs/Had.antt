@@ -1,18 +1,18 @@
 -- What a state has read, and what a lexeme that comes to it leaves true.
-use mathlib.Core.Path.{_≡_, refl, sym, ap, _∙_, subst}
-use mathlib.Core.List.{List, [], _∷_, _++_, append-assoc, append-nil}
+use mathlib.Core.Path.{_≡_, refl}
+use mathlib.Core.List.{List, [], _∷_, _++_}
 use mathlib.Core.Bool.{Bool, true, false, cond, not, _||_}
 use Prim.Native.Nat.{ℕ, suc, _≤_, max, zero-le}
-use native.Mathlib.Nat.{le-max-left, le-max-right}
+use native.Mathlib.Nat.{le-max-right}
 use native.Mathlib.Omega.{arith}
 use lib.Dec.{T, eqb}
 use borrow.Author.Tests.{eqb-true}
 use Rattle.lexeme.specs.Coded.{code-of}
 use Rattle.lexeme.specs.Lexemes.{Name, Quoted, Sign, Mul, Rel, Fixed, Lexeme, lit, name, class, string, sign, mul, rel, fixed}
-use Rattle.lexeme.specs.Lexemes.{open-round, close-round, open-brace, close-brace, becomes, DO, ERROR, IF, INT, NOT, PRINTI, PRINTLNS, PRINTS, READ, THEN, WHILE, end}
-use Rattle.sentence.specs.Sentences.{Kind, Sen}
+use Rattle.lexeme.specs.Lexemes.{open-round, open-brace, becomes, DO, IF, INT, NOT, PRINTI, PRINTLNS, PRINTS, READ, THEN, WHILE, end}
+use Rattle.sentence.specs.Sentences.{Kind}
 use Rattle.sentence.specs.Sentences.{spell, program}
-use Rattle.sentence.specs.Reader.{Around, depth, in-first, in-multiply, in-unsigned, in-signed, in-add, in-bracket, in-left, in-right, in-print, in-assign, in-negated, in-while, in-when, in-while-body, in-when-body, in-block, in-block-after, in-program}
+use Rattle.sentence.specs.Reader.{Around, in-first, in-multiply, in-unsigned, in-signed, in-add, in-bracket, in-left, in-right, in-print, in-assign, in-negated, in-while, in-when, in-while-body, in-when-body, in-block, in-block-after, in-program}
 use Rattle.sentence.specs.Reader.{State, want-DO, want-factor, want-expression, want-condition, want-command, want-line, want-string, want-declared, want-read, want-becomes, got-term, got-command, whole, nowhere}
 use Rattle.sentence.specs.Reader.{is, on, on-lit, on-name, on-string, on-sign, on-mul, on-rel}
 use Rattle.sentence.specs.Reader.{Verdict, verdict, goes-on, is-whole, begins-none}

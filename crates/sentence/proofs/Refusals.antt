@@ -1,20 +1,19 @@
 -- What is promised of the reader: it accepts the Programs that are shallow enough, and refuses by 4 and 5 as the paper says.
-use mathlib.Core.Path.{_≡_, refl, sym, ap, _∙_, subst}
-use mathlib.Core.List.{List, [], _∷_, _++_, append-assoc, append-nil, map-append}
-use mathlib.Core.Bool.{Bool, true, false, not}
-use mathlib.Core.Logic.{_⊎_, inl, inr, _↔_}
-use Prim.Native.Nat.{ℕ, _<_, _≤_, zero-le}
+use mathlib.Core.Path.{_≡_, refl, sym, ap, _∙_}
+use mathlib.Core.List.{List, [], _∷_, _++_, append-assoc, map-append}
+use mathlib.Core.Logic.{inl, inr, _↔_}
+use Prim.Native.Nat.{ℕ, _<_, zero-le}
 use native.Mathlib.Omega.{arith}
 use lib.Dec.{T, T-not}
-use lib.ListN.{length, getD}
+use lib.ListN.{length}
 use Rattle.lexeme.specs.Answers.{Answer, given, refused}
 use Rattle.lexeme.specs.Lexemes.{Name, Lexeme, Placed, fixed, end}
 use Rattle.lexeme.specs.Coded.{code-of}
 use Rattle.sentence.specs.Sentences.{Sen, command, program-nestings}
 use Rattle.sentence.specs.Grammar.{Whole, Begins, Too-deep, Fault, no-program, too-deep, Faultless, Shallow, whats, Refused}
-use Rattle.sentence.specs.Reader.{State, want-DO, whole, is, step, Verdict, verdict, goes-on, is-whole, begins-none, read}
-use Rattle.sentence.proofs.Walk.{nested-at, Walked, walk, went, walk-append}
-use Rattle.sentence.proofs.Had.{alive-at, Alive, open-at, going, Good}
+use Rattle.sentence.specs.Reader.{want-DO, whole, is, step, Verdict, verdict, goes-on, is-whole, begins-none, read}
+use Rattle.sentence.proofs.Walk.{nested-at, walk, went, walk-append}
+use Rattle.sentence.proofs.Had.{alive-at, Alive, open-at, going}
 use Rattle.sentence.proofs.Steps.{good-step}
 use Rattle.sentence.proofs.Begins.{sound, viable, begins→alive}
 use Rattle.sentence.proofs.Nestings.{walked, end-nested, numbered}

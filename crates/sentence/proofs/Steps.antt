@@ -1,21 +1,18 @@
 -- Each step of the reader has read the lexeme that it was given, closes no more than was open, and does not go on after the end.
-use mathlib.Core.Path.{_≡_, refl, sym, ap, _∙_, subst}
-use mathlib.Core.List.{List, [], _∷_, _++_, append-assoc, append-nil}
-use mathlib.Core.Bool.{Bool, true, false, cond, not, _||_}
-use Prim.Native.Nat.{ℕ, suc, _≤_, max, zero-le}
-use native.Mathlib.Nat.{le-max-left, le-max-right}
-use native.Mathlib.Omega.{arith}
-use lib.Dec.{T}
+use mathlib.Core.Path.{_≡_, refl, _∙_}
+use mathlib.Core.List.{_∷_, _++_, append-assoc}
+use Prim.Native.Nat.{ℕ, suc, zero-le}
+use native.Mathlib.Nat.{le-max-left}
 use Rattle.lexeme.specs.Coded.{code-of}
-use Rattle.lexeme.specs.Lexemes.{Name, Quoted, Sign, Mul, Rel, Fixed, Lexeme, lit, name, class, string, sign, mul, rel, fixed}
+use Rattle.lexeme.specs.Lexemes.{Name, Lexeme, fixed}
 use Rattle.lexeme.specs.Lexemes.{open-round, close-round, open-brace, close-brace, becomes, DO, ERROR, IF, INT, NOT, PRINTI, PRINTLNS, PRINTS, READ, THEN, WHILE, end}
-use Rattle.sentence.specs.Sentences.{Kind, Sen, factor, term, expression, condition, command, commands, literal, variable, bracket, first, multiply, unsigned, signed, add, negated, compare, print, print-line, print-string, declare, input, assign, error, while, when, block, single, then}
+use Rattle.sentence.specs.Sentences.{Sen, factor, term, expression, condition, command, commands, literal, variable, bracket, unsigned, signed, add, negated, compare, print, assign, while, when, single, then}
 use Rattle.sentence.specs.Sentences.{spell, program}
 use Rattle.sentence.specs.Reader.{Around, depth, in-first, in-multiply, in-unsigned, in-signed, in-add, in-bracket, in-left, in-right, in-print, in-assign, in-negated, in-while, in-when, in-while-body, in-when-body, in-block, in-block-after, in-program}
 use Rattle.sentence.specs.Reader.{State, want-DO, want-factor, want-expression, want-condition, want-command, want-line, want-string, want-declared, want-read, want-becomes, got-term, got-command, whole, nowhere}
 use Rattle.sentence.specs.Reader.{is, got-factor, at-factor, at-expression, at-condition, at-command, at-command-or-brace, after-command, after-condition, whole-expression, after-expression, whole-term, after-term, step}
-use Rattle.sentence.specs.Reader.{Verdict, verdict, goes-on, is-whole, begins-none}
-use Rattle.sentence.proofs.Had.{before, had, Alive, open-at, going, Good, stuck, plain, deeper, by-word, by-lit, by-name, by-string, by-sign, by-mul, by-rel}
+use Rattle.sentence.specs.Reader.{verdict}
+use Rattle.sentence.proofs.Had.{before, had, open-at, going, Good, stuck, plain, deeper, by-word, by-lit, by-name, by-string, by-sign, by-mul, by-rel}
 use Rattle.sentence.proofs.Walk.{closes, nested-at, factor-open}
 
 -- ---- where a construct is wanted

@@ -1,15 +1,15 @@
 -- A walk of the reader: the state that it comes to and, for each lexeme, the nestings it stands in. Walking a sentence gives what Sentences.antt says of it.
-use mathlib.Core.Path.{_≡_, refl, sym, ap, _∙_}
-use mathlib.Core.List.{List, [], _∷_, _++_, append-assoc, append-nil}
-use mathlib.Core.Bool.{Bool, true, false, cond, _||_}
+use mathlib.Core.Path.{_≡_, refl, ap}
+use mathlib.Core.List.{List, [], _∷_, _++_, append-assoc}
+use mathlib.Core.Bool.{Bool, cond, _||_}
 use Prim.Native.Nat.{ℕ, suc}
 use Rattle.lexeme.specs.Coded.{code-of}
-use Rattle.lexeme.specs.Lexemes.{Name, Quoted, Sign, Mul, Rel, Fixed, Lexeme, lit, name, class, string, sign, mul, rel, fixed}
-use Rattle.lexeme.specs.Lexemes.{open-round, close-round, open-brace, close-brace, becomes, DO, ERROR, IF, INT, NOT, PRINTI, PRINTLNS, PRINTS, READ, THEN, WHILE, end}
+use Rattle.lexeme.specs.Lexemes.{Name, Sign, Mul, Fixed, Lexeme, name, sign, mul, rel, fixed}
+use Rattle.lexeme.specs.Lexemes.{close-round, open-brace, close-brace, DO, ERROR, IF, INT, PRINTI, PRINTLNS, PRINTS, READ, THEN, WHILE, end}
 use Rattle.sentence.specs.Sentences.{Kind, Sen, factor, term, expression, condition, command, commands, literal, variable, bracket, first, multiply, unsigned, signed, add, negated, compare, print, print-line, print-string, declare, input, assign, error, while, when, block, single, then}
 use Rattle.sentence.specs.Sentences.{spell, program, nestings, program-nestings}
 use Rattle.sentence.specs.Reader.{Around, depth, in-first, in-multiply, in-unsigned, in-signed, in-add, in-bracket, in-left, in-right, in-print, in-assign, in-negated, in-while, in-when, in-while-body, in-when-body, in-block, in-block-after, in-program}
-use Rattle.sentence.specs.Reader.{State, want-DO, want-factor, want-expression, want-condition, want-command, want-line, want-string, want-declared, want-read, want-becomes, got-term, got-command, whole, nowhere}
+use Rattle.sentence.specs.Reader.{State, want-DO, want-factor, want-expression, want-condition, want-command, got-term, got-command, whole}
 use Rattle.sentence.specs.Reader.{is, on, on-lit, on-name, on-string, on-sign, on-mul, on-rel, got-factor, at-factor, at-expression, at-condition, at-command, at-command-or-brace, after-command, after-condition, whole-expression, after-expression, whole-term, after-term, step}
 use Rattle.sentence.specs.Reader.{Verdict, verdict, goes-on, is-whole, begins-none}
 
