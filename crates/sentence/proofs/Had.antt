@@ -1,9 +1,9 @@
 -- What a state has read, and what a lexeme that comes to it leaves true.
 use mathlib.Core.Path.{_≡_, refl}
 use mathlib.Core.List.{List, [], _∷_, _++_}
-use mathlib.Core.Bool.{Bool, true, false, cond, not, _||_}
-use Prim.Native.Nat.{ℕ, suc, _≤_, max, zero-le}
-use native.Mathlib.Nat.{le-max-right}
+use mathlib.Core.Bool.{Bool, true, false, cond, not, _&&_, _||_}
+use Prim.Native.Nat.{ℕ, suc, _≤_, zero-le}
+use native.Mathlib.Nat.{le-of-eq}
 use native.Mathlib.Omega.{arith}
 use lib.Dec.{T, eqb}
 use borrow.Author.Tests.{eqb-true}
@@ -17,7 +17,7 @@ use Rattle.sentence.specs.Reader.{State, want-DO, want-factor, want-expr
 use Rattle.sentence.specs.Reader.{is, on, on-lit, on-name, on-string, on-sign, on-mul, on-rel}
 use Rattle.sentence.specs.Reader.{Verdict, verdict, goes-on, is-whole, begins-none}
 use Rattle.sentence.proofs.Codes.{code-of-injective}
-use Rattle.sentence.proofs.Walk.{closes, nested-at}
+use Rattle.sentence.proofs.Walk.{nested-at}
 
 -- ---- what a state has read
 
@@ -77,38 +77,34 @@ going (goes-on d) = true
 going (is-whole m) = false
 going begins-none = false
 
--- after what was read, where d nestings were open, the lexeme l brings to the state s
+unfoldable pub opens : Lexeme → Bool
+opens l = is open-brace l || (is IF l || (is WHILE l || (is NOT l || is open-round l)))
+
+-- After what was read, where d nestings were open, the lexeme l brings to the state s: that has read l too; l stands in no more
+-- nestings than are open after it, if it opens one, and else in no more than were open before; and nothing goes on after the end.
 pub record Good (read : List Lexeme) (d : ℕ) (s : State) (l : Lexeme) : Type 0 where
   pub has : Alive s → had s ≡ read ++ l ∷ []
-  pub shallow : nested-at l (verdict s) ≤ max d (open-at (verdict s))
-  pub final : T (is end l) → T (not (going (verdict s)))
+  pub shallow : nested-at l (verdict s) ≤ cond (opens l) (open-at (verdict s)) d
+  pub final : T (not (is end l && going (verdict s)))
 
 module _ {read : List Lexeme} {d : ℕ} where
   pub stuck : {l : Lexeme} → Good read d nowhere l
   unfolding verdict alive-at nested-at going
-  stuck = record { has = λ a. absurd a; shallow = zero-le; final = λ t. tt }
-
-  -- by a lexeme that closes nothing and is not the end
-  pub plain : {s : State} {l : Lexeme} → T (not (closes l || is end l)) → had s ≡ read ++ l ∷ [] → Good read d s l
-  unfolding nested-at open-at
-  plain {s} {l} h e = record { has = λ a. e; shallow = low (verdict s); final = λ t. absurd (open-end (closes l) (is end l) h t) }
+  stuck {l} = record { has = λ a. absurd a; shallow = zero-le; final = not-going (is end l) }
     where
-      open-end : (a b : Bool) → T (not (a || b)) → T b → ⊥
-      open-end true b g t = g
-      open-end false true g t = g
-      open-end false false g t = t
+      not-going : (b : Bool) → T (not (b && false))
+      not-going true = tt
+      not-going false = tt
 
-      flat : (a b : Bool) (n : ℕ) → T (not (a || b)) → cond a (suc n) n ≤ max d n
-      flat true b n g = absurd g
-      flat false b n g = le-max-right d n
-
-      low : (v : Verdict) → nested-at l v ≤ max d (open-at v)
-      low (goes-on n) = flat (closes l) (is end l) n h
-      low (is-whole m) = zero-le
-      low begins-none = zero-le
+  pub good : {s : State} {l : Lexeme} → T (not (is end l && going (verdict s))) → nested-at l (verdict s) ≡ cond (opens l) (open-at (verdict s)) d → had s ≡ read ++ l ∷ [] → Good read d s l
+  good f n h = record { has = λ a. h; shallow = le-of-eq n; final = f }
 
   pub deeper : {s : State} {l : Lexeme} → Good read d s l → Good read (suc d) s l
-  deeper g = record { has = g .has; shallow = omega (arith, g .shallow); final = g .final }
+  deeper {s} {l} g = record { has = g .has; shallow = go (opens l) (g .shallow); final = g .final }
+    where
+      go : (b : Bool) → nested-at l (verdict s) ≤ cond b (open-at (verdict s)) d → nested-at l (verdict s) ≤ cond b (open-at (verdict s)) (suc d)
+      go true h = h
+      go false h = omega arith
 
 -- ---- a choice by a lexeme is good where each choice is
 

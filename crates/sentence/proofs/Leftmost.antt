@@ -4,7 +4,7 @@ use mathlib.Core.List.{List, [], _∷_, _++_}
 use mathlib.Core.Bool.{Bool, true, false, cond}
 use mathlib.Core.Logic.{_⊎_, inl, inr}
 use Prim.Native.Nat.{ℕ, zero, suc, _<_, _≤_, zero-le}
-use native.Mathlib.Nat.{le-trans, max-le, le-refl}
+use native.Mathlib.Nat.{le-trans, le-refl}
 use native.Mathlib.Omega.{arith}
 use lib.Dec.{T, ltb}
 use lib.ListN.{getD}
@@ -15,7 +15,7 @@ use Rattle.sentence.specs.Sentences.{Sen, command}
 use Rattle.sentence.specs.Grammar.{whats}
 use Rattle.sentence.specs.Reader.{State, whole, step, Verdict, verdict, goes-on, is-whole, begins-none, read-from}
 use Rattle.sentence.proofs.Walk.{closes, nested-at, walk, went}
-use Rattle.sentence.proofs.Had.{alive-at, Alive, open-at, going}
+use Rattle.sentence.proofs.Had.{alive-at, Alive, open-at, going, opens}
 use Rattle.sentence.proofs.Steps.{good-step}
 use Rattle.sentence.proofs.Begins.{Settled, settled}
 
@@ -31,7 +31,7 @@ module _ (limit : ℕ) where
 
   pub data Wrong (l : Lexeme) (s : State) : ℕ → Type 0 where
     none : (Alive s → ⊥) → Wrong l s 4
-    deep : limit < nested-at l (verdict s) → Wrong l s 5
+    deep : T (opens l) → limit < nested-at l (verdict s) → Wrong l s 5
 
   -- from the state s on, the first wrong lexeme is wrong by n, at the place p
   pub record Found (s : State) (ls : List Placed) (n p : ℕ) : Type 0 where
@@ -46,13 +46,13 @@ module _ (limit : ℕ) where
   -- without the end the lexemes may run out before a Program does
   unfoldable pub Answered : State → List Placed → Answer (Sen Name command) → Type 0
   Answered s ls (given m) = Clean s (whats ls) × (walk s (whats ls) .state ≡ whole m)
-  Answered s ls (refused n p) = Found s ls n p ⊎ T (going (verdict (walk s (whats ls) .state)))
+  Answered s ls (refused n p) = Found s ls n p ⊎ (Clean s (whats ls) × T (going (verdict (walk s (whats ls) .state))))
 
   next : (s : State) (l : Placed) (ls : List Placed) (a : Answer (Sen Name command)) → Fine (l .what) (step s (l .what)) → Answered (step s (l .what)) ls a → Answered s (l ∷ ls) a
   unfolding Answered Clean whats walk went
   next s l ls (given m) f r = ((f, r .0), r .1)
   next s l ls (refused n p) f (inl r) = inl (record { before = l ∷ r .before; at = r .at; after = r .after; split = ap (λ xs. l ∷ xs) (r .split); place = r .place; clean = (f, r .clean); wrong = r .wrong })
-  next s l ls (refused n p) f (inr g) = inr g
+  next s l ls (refused n p) f (inr g) = inr ((f, g .0), g .1)
 
   nested-least : (l : Lexeme) (d : ℕ) → d ≤ nested-at l (goes-on d)
   unfolding nested-at
@@ -61,6 +61,14 @@ module _ (limit : ℕ) where
       go : (b : Bool) → d ≤ cond b (suc d) d
       go true = omega arith
       go false = le-refl d
+
+  both-low : (b : Bool) {x y : ℕ} → x ≤ limit → y ≤ limit → cond b x y ≤ limit
+  both-low true p q = p
+  both-low false p q = q
+
+  first-deep : (b : Bool) (x y : ℕ) → limit < cond b x y → y ≤ limit → T b
+  first-deep true x y p q = tt
+  first-deep false x y p q = absurd (omega arith)
 
   -- one lexeme, and the answer from there on
   answered-step : (s : State) (l : Placed) (ls : List Placed) → open-at (verdict s) ≤ limit → (open-at (verdict (step s (l .what))) ≤ limit → Alive (step s (l .what)) → Answered (step s (l .what)) ls (read-from limit (step s (l .what)) ls)) → Answered s (l ∷ ls) (read-from limit s (l ∷ ls))
@@ -71,13 +79,15 @@ module _ (limit : ℕ) where
       to = step s (l .what)
 
       fine : open-at (verdict to) ≤ limit → Alive to → Fine (l .what) to
-      fine h a = record { alive = a; low = le-trans (good-step s (l .what) .shallow) (max-le o h) }
+      fine h a = record { alive = a; low = le-trans (good-step s (l .what) .shallow) (both-low (opens (l .what)) h o) }
 
       found : {n : ℕ} → Wrong (l .what) to n → Found s (l ∷ ls) n (l .place)
       found w = record { before = []; at = l; after = ls; split = refl; place = refl; clean = tt; wrong = w }
 
       test : (d : ℕ) → verdict to ≡ goes-on d → (b : Bool) → ltb limit d ≡ b → Answered s (l ∷ ls) (elim b [ true ↦ refused 5 (l .place) | false ↦ read-from limit to ls ])
-      test d e true q = inl (found (deep (rw e (le-trans (ltb-true limit d q) (nested-least (l .what) d)))))
+      test d e true q =
+          let h : limit < nested-at (l .what) (verdict to) = rw e (le-trans (ltb-true limit d q) (nested-least (l .what) d)) in
+          inl (found (deep (first-deep (opens (l .what)) (open-at (verdict to)) (open-at (verdict s)) (le-trans h (good-step s (l .what) .shallow)) o) h))
       test d e false q =
           let h : open-at (verdict to) ≤ limit = rw e (ltb-false limit d q) in
           let a : Alive to = rw e tt in
@@ -97,7 +107,7 @@ module _ (limit : ℕ) where
   answered s [] o a = go (verdict s) refl
     where
       go : (v : Verdict) → verdict s ≡ v → Answered s [] (elim v [ goes-on d ↦ refused 4 0 | is-whole m ↦ given m | begins-none ↦ refused 4 0 ])
-      go (goes-on d) e = inr (rw e tt)
+      go (goes-on d) e = inr (tt, rw e tt)
       go (is-whole m) e = (tt, rw e at (settled s))
       go begins-none e = absurd (rw e at a)
   answered s (l ∷ ls) o a = answered-step s l ls o (answered (step s (l .what)) ls)

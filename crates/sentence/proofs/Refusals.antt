@@ -11,9 +11,9 @@ use Rattle.lexeme.specs.Lexemes.{Name, Lexeme, Placed, fixed, end}
 use Rattle.lexeme.specs.Coded.{code-of}
 use Rattle.sentence.specs.Sentences.{Sen, command, program-nestings}
 use Rattle.sentence.specs.Grammar.{Whole, Begins, Too-deep, Fault, no-program, too-deep, Faultless, Shallow, whats, Refused}
-use Rattle.sentence.specs.Reader.{want-DO, whole, is, step, Verdict, verdict, goes-on, is-whole, begins-none, read}
+use Rattle.sentence.specs.Reader.{State, want-DO, whole, is, step, Verdict, verdict, goes-on, is-whole, begins-none, read}
 use Rattle.sentence.proofs.Walk.{nested-at, walk, went, walk-append}
-use Rattle.sentence.proofs.Had.{alive-at, Alive, open-at, going}
+use Rattle.sentence.proofs.Had.{alive-at, Alive, open-at, going, opens}
 use Rattle.sentence.proofs.Steps.{good-step}
 use Rattle.sentence.proofs.Begins.{sound, viable, begins→alive}
 use Rattle.sentence.proofs.Nestings.{walked, end-nested, numbered}
@@ -59,14 +59,19 @@ module _ (limit : ℕ) where
   fault-number before l (too-deep d) (no-program g) = absurd (g (deep-begins before l d))
   fault-number before l (too-deep d) (too-deep e) = refl
 
-  pub refused-unique : {ls : List Placed} {n p n′ p′ : ℕ} → Refused limit ls n p → Refused limit ls n′ p′ → (n ≡ n′) × (p ≡ p′)
+  same-place : (ls : List Placed) {n p n′ p′ : ℕ} (r : Refused limit ls n p) (q : Refused limit ls n′ p′) → (r .before ≡ q .before) × (r .at ≡ q .at)
   unfolding Faultless
-  refused-unique {n} {p} {n′} {p′} r q = go (places (r .before) (r .at) (r .after) (q .before) (q .at) (q .after) (r .split ∙ sym (q .split)))
+  same-place ls {n} {p} {n′} {p′} r q = go (places (r .before) (r .at) (r .after) (q .before) (q .at) (q .after) (r .split ∙ sym (q .split)))
     where
-      go : Places (r .before) (r .at) (q .before) (q .at) → (n ≡ n′) × (p ≡ p′)
-      go (same e f) = (fault-number (whats (r .before)) (r .at .what) (r .fault) (rw (e, f) (q .fault)), sym (r .place) ∙ ap (λ (z : Placed). z .place) f ∙ q .place)
+      go : Places (r .before) (r .at) (q .before) (q .at) → (r .before ≡ q .before) × (r .at ≡ q .at)
+      go (same e f) = (e, f)
       go (earlier zs e) = absurd (q .leftmost (whats (r .before)) (whats zs) (r .at .what) n (whats-split (r .before) (r .at) zs (q .before) e) (r .fault))
       go (later zs e) = absurd (r .leftmost (whats (q .before)) (whats zs) (q .at .what) n′ (whats-split (q .before) (q .at) zs (r .before) e) (q .fault))
+
+  pub refused-unique : {ls : List Placed} {n p n′ p′ : ℕ} → Refused limit ls n p → Refused limit ls n′ p′ → (n ≡ n′) × (p ≡ p′)
+  refused-unique {ls} r q =
+      let e = same-place ls r q in
+      (fault-number (whats (r .before)) (r .at .what) (r .fault) (rw (e .0, e .1) (q .fault)), sym (r .place) ∙ ap (λ (z : Placed). z .place) (e .1) ∙ q .place)
 
   -- ---- the reader's wrong lexemes are the paper's faults
 
@@ -86,7 +91,7 @@ module _ (limit : ℕ) where
   wrong→fault : (before : List Lexeme) (l : Lexeme) {n : ℕ} → Wrong limit l (step (walk want-DO before .state) l) n → Fault limit before l n
   unfolding Too-deep Begins
   wrong→fault before l (none f) = no-program (λ b. f (rw step-after at (begins→alive (before ++ l ∷ []) b)))
-  wrong→fault before l (deep h) =
+  wrong→fault before l (deep o h) =
       let b = begins-at before l (deep-alive l _ h) in
       let w : Whole (before ++ l ∷ b .0) (b .1) = rw append-assoc at (b .2) in
       too-deep (b .0, b .1, w, rw (numbered before (b .0) l (b .1) w) at h)
@@ -155,7 +160,7 @@ module _ (limit : ℕ) where
         where
           no : Answered limit want-DO ls (refused n p) → ⊥
           no (inl r) = refusal-faulty ls (refusal ls r) (program-faultless (whats ls) m w s)
-          no (inr g) = rw (walked (whats ls) m w) at g
+          no (inr g) = rw (walked (whats ls) m w) at (g .1)
 
   -- every list of lexemes of a text ends with the end, after which the reader does not go on
   pub refuses : (ls init : List Placed) (p : ℕ) → ls ≡ init ++ record { place = p; what = fixed end } ∷ [] → (n q : ℕ) → (read limit ls ≡ refused n q) ↔ Refused limit ls n q
@@ -167,8 +172,25 @@ module _ (limit : ℕ) where
 
       so : (n q : ℕ) → Answered limit want-DO ls (refused n q) → Refused limit ls n q
       so n q (inl r) = refusal ls r
-      so n q (inr g) = absurd (T-not (going (verdict (walk want-DO (whats ls) .state))) (rw last (good-step (walk want-DO (whats init) .state) (fixed end) .final tt)) g)
+      so n q (inr g) = absurd (T-not (going (verdict (walk want-DO (whats ls) .state))) (rw last (good-step (walk want-DO (whats init) .state) (fixed end) .final)) (g .1))
 
       back : Refused limit ls n q → (a : Answer (Sen Name command)) → Answered limit want-DO ls a → a ≡ refused n q
       back r (given m) c = absurd (refusal-faulty ls r (clean→faultless (whats ls) (c .0)))
       back r (refused n′ q′) c = let same = refused-unique (so n′ q′ c) r in cc (same .0, same .1)
+
+  -- refusal 5 is at a lexeme that opens a nesting
+  pub opens-it : (ls : List Placed) (p : ℕ) (r : Refused limit ls 5 p) → T (opens (r .at .what))
+  unfolding Answered refusal
+  opens-it ls p r = go (read limit ls) (answer ls)
+    where
+      clean : Clean limit want-DO (whats ls) → T (opens (r .at .what))
+      clean c = absurd (refusal-faulty ls r (clean→faultless (whats ls) c))
+
+      wrong : {n : ℕ} {l : Lexeme} {s : State} → Wrong limit l s n → n ≡ 5 → T (opens l)
+      wrong (none f) e = absurd (omega arith)
+      wrong (deep o h) e = o
+
+      go : (a : Answer (Sen Name command)) → Answered limit want-DO ls a → T (opens (r .at .what))
+      go (given m) c = clean (c .0)
+      go (refused n q) (inl f) = rw (same-place ls r (refusal ls f) .1) (wrong (f .wrong) (refused-unique (refusal ls f) r .0))
+      go (refused n q) (inr c) = clean (c .0)
