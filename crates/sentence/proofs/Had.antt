@@ -80,8 +80,7 @@ going begins-none = false
 unfoldable pub opens : Lexeme → Bool
 opens l = is open-brace l || (is IF l || (is WHILE l || (is NOT l || is open-round l)))
 
--- After what was read, where d nestings were open, the lexeme l brings to the state s: that has read l too; l stands in no more
--- nestings than are open after it, if it opens one, and else in no more than were open before; and nothing goes on after the end.
+-- read where d nestings were open, l brings to s: s has read l too, l stands in no more nestings than d unless it opens one, and nothing goes on after the end
 pub record Good (read : List Lexeme) (d : ℕ) (s : State) (l : Lexeme) : Type 0 where
   pub has : Alive s → had s ≡ read ++ l ∷ []
   pub shallow : nested-at l (verdict s) ≤ cond (opens l) (open-at (verdict s)) d
