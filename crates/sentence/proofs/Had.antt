@@ -1,0 +1,190 @@
+-- What a state has read, and what a lexeme that comes to it leaves true.
+use mathlib.Core.Path.{_≡_, refl}
+use mathlib.Core.List.{List, [], _∷_, _++_}
+use mathlib.Core.Bool.{Bool, true, false, cond, not, _&&_, _||_}
+use Prim.Native.Nat.{ℕ, suc, _≤_, zero-le}
+use native.Mathlib.Nat.{le-of-eq}
+use native.Mathlib.Omega.{arith}
+use lib.Dec.{T, eqb}
+use borrow.Author.Tests.{eqb-true}
+use Rattle.lexeme.specs.Coded.{code-of}
+use Rattle.lexeme.specs.Lexemes.{Name, Quoted, Sign, Mul, Rel, Fixed, Lexeme, lit, name, class, string, sign, mul, rel, fixed}
+use Rattle.lexeme.specs.Lexemes.{open-round, open-brace, becomes, DO, IF, INT, NOT, PRINTI, PRINTLNS, PRINTS, READ, THEN, WHILE, end}
+use Rattle.sentence.specs.Sentences.{Kind}
+use Rattle.sentence.specs.Sentences.{spell, program}
+use Rattle.sentence.specs.Reader.{Around, in-first, in-multiply, in-unsigned, in-signed, in-add, in-bracket, in-left, in-right, in-print, in-assign, in-negated, in-while, in-when, in-while-body, in-when-body, in-block, in-block-after, in-program}
+use Rattle.sentence.specs.Reader.{State, want-DO, want-factor, want-expression, want-condition, want-command, want-line, want-string, want-declared, want-read, want-becomes, got-term, got-command, whole, nowhere}
+use Rattle.sentence.specs.Reader.{is, on, on-lit, on-name, on-string, on-sign, on-mul, on-rel}
+use Rattle.sentence.specs.Reader.{Verdict, verdict, goes-on, is-whole, begins-none}
+use Rattle.sentence.proofs.Codes.{code-of-injective}
+use Rattle.sentence.proofs.Walk.{nested-at}
+
+-- ---- what a state has read
+
+unfoldable pub before : {k : Kind} → Around k → List Lexeme
+before (in-first k) = before k
+before (in-multiply t o k) = before k ++ (spell t ++ mul o ∷ [])
+before (in-unsigned k) = before k
+before (in-signed s k) = before k ++ sign s ∷ []
+before (in-add e s k) = before k ++ (spell e ++ sign s ∷ [])
+before (in-bracket k) = before k ++ fixed open-round ∷ []
+before (in-left k) = before k
+before (in-right d r k) = before k ++ (spell d ++ rel r ∷ [])
+before (in-print k) = before k ++ fixed PRINTI ∷ []
+before (in-assign x k) = before k ++ name x ∷ fixed becomes ∷ []
+before (in-negated k) = before k ++ fixed NOT ∷ []
+before (in-while k) = before k ++ fixed WHILE ∷ []
+before (in-when k) = before k ++ fixed IF ∷ []
+before (in-while-body c k) = before k ++ fixed WHILE ∷ (spell c ++ fixed DO ∷ [])
+before (in-when-body c k) = before k ++ fixed IF ∷ (spell c ++ fixed THEN ∷ [])
+before (in-block k) = before k ++ fixed open-brace ∷ []
+before (in-block-after ms k) = before k ++ fixed open-brace ∷ spell ms
+before in-program = fixed DO ∷ []
+
+unfoldable pub had : State → List Lexeme
+had want-DO = []
+had (want-factor k) = before k
+had (want-expression k) = before k
+had (want-condition k) = before k
+had (want-command k) = before k
+had (want-line k) = before k ++ fixed PRINTLNS ∷ []
+had (want-string k) = before k ++ fixed PRINTS ∷ []
+had (want-declared k) = before k ++ fixed INT ∷ []
+had (want-read k) = before k ++ fixed READ ∷ []
+had (want-becomes x k) = before k ++ name x ∷ []
+had (got-term t k) = before k ++ spell t
+had (got-command m k) = before k ++ spell m
+had (whole m) = program m ++ fixed end ∷ []
+had nowhere = []
+
+unfoldable pub alive-at : Verdict → Bool
+alive-at (goes-on d) = true
+alive-at (is-whole m) = true
+alive-at begins-none = false
+
+abbrev pub Alive : State → Type 0
+Alive s = T (alive-at (verdict s))
+
+-- ---- one lexeme more
+
+unfoldable pub open-at : Verdict → ℕ
+open-at (goes-on d) = d
+open-at (is-whole m) = 0
+open-at begins-none = 0
+
+unfoldable pub going : Verdict → Bool
+going (goes-on d) = true
+going (is-whole m) = false
+going begins-none = false
+
+unfoldable pub opens : Lexeme → Bool
+opens l = is open-brace l || (is IF l || (is WHILE l || (is NOT l || is open-round l)))
+
+-- read where d nestings were open, l brings to s: s has read l too, l stands in no more nestings than d unless it opens one, and nothing goes on after the end
+pub record Good (read : List Lexeme) (d : ℕ) (s : State) (l : Lexeme) : Type 0 where
+  pub has : Alive s → had s ≡ read ++ l ∷ []
+  pub shallow : nested-at l (verdict s) ≤ cond (opens l) (open-at (verdict s)) d
+  pub final : T (not (is end l && going (verdict s)))
+
+module _ {read : List Lexeme} {d : ℕ} where
+  pub stuck : {l : Lexeme} → Good read d nowhere l
+  unfolding verdict alive-at nested-at going
+  stuck {l} = record { has = λ a. absurd a; shallow = zero-le; final = not-going (is end l) }
+    where
+      not-going : (b : Bool) → T (not (b && false))
+      not-going true = tt
+      not-going false = tt
+
+  pub good : {s : State} {l : Lexeme} → T (not (is end l && going (verdict s))) → nested-at l (verdict s) ≡ cond (opens l) (open-at (verdict s)) d → had s ≡ read ++ l ∷ [] → Good read d s l
+  good f n h = record { has = λ a. h; shallow = le-of-eq n; final = f }
+
+  pub deeper : {s : State} {l : Lexeme} → Good read d s l → Good read (suc d) s l
+  deeper {s} {l} g = record { has = g .has; shallow = go (opens l) (g .shallow); final = g .final }
+    where
+      go : (b : Bool) → nested-at l (verdict s) ≤ cond b (open-at (verdict s)) d → nested-at l (verdict s) ≤ cond b (open-at (verdict s)) (suc d)
+      go true h = h
+      go false h = omega arith
+
+-- ---- a choice by a lexeme is good where each choice is
+
+module _ {read : List Lexeme} {d : ℕ} where
+  pub by-word : (w : Fixed) (l : Lexeme) {s t : State} → Good read d s (fixed w) → Good read d t l → Good read d (on w l s t) l
+  unfolding on is
+  by-word w (lit n) h g = g
+  by-word w (name x) h g = g
+  by-word w (class x) h g = g
+  by-word w (string q) h g = g
+  by-word w (sign s) h g = g
+  by-word w (mul o) h g = g
+  by-word w (rel r) h g = g
+  by-word w (fixed v) {s} {t} h g = go (eqb (code-of v) (code-of w)) refl
+    where
+      go : (b : Bool) → eqb (code-of v) (code-of w) ≡ b → Good read d (cond b s t) (fixed v)
+      go true e = rw (code-of-injective v w (eqb-true (code-of v) (code-of w) e)) h
+      go false e = g
+
+  pub by-lit : (l : Lexeme) {f : ℕ → State} {t : State} → ((n : ℕ) → Good read d (f n) (lit n)) → Good read d t l → Good read d (on-lit l f t) l
+  unfolding on-lit
+  by-lit (lit n) h g = h n
+  by-lit (name x) h g = g
+  by-lit (class x) h g = g
+  by-lit (string q) h g = g
+  by-lit (sign s) h g = g
+  by-lit (mul o) h g = g
+  by-lit (rel r) h g = g
+  by-lit (fixed v) h g = g
+
+  pub by-name : (l : Lexeme) {f : Name → State} {t : State} → ((x : Name) → Good read d (f x) (name x)) → Good read d t l → Good read d (on-name l f t) l
+  unfolding on-name
+  by-name (lit n) h g = g
+  by-name (name x) h g = h x
+  by-name (class x) h g = g
+  by-name (string q) h g = g
+  by-name (sign s) h g = g
+  by-name (mul o) h g = g
+  by-name (rel r) h g = g
+  by-name (fixed v) h g = g
+
+  pub by-string : (l : Lexeme) {f : Quoted → State} {t : State} → ((q : Quoted) → Good read d (f q) (string q)) → Good read d t l → Good read d (on-string l f t) l
+  unfolding on-string
+  by-string (lit n) h g = g
+  by-string (name x) h g = g
+  by-string (class x) h g = g
+  by-string (string q) h g = h q
+  by-string (sign s) h g = g
+  by-string (mul o) h g = g
+  by-string (rel r) h g = g
+  by-string (fixed v) h g = g
+
+  pub by-sign : (l : Lexeme) {f : Sign → State} {t : State} → ((s : Sign) → Good read d (f s) (sign s)) → Good read d t l → Good read d (on-sign l f t) l
+  unfolding on-sign
+  by-sign (lit n) h g = g
+  by-sign (name x) h g = g
+  by-sign (class x) h g = g
+  by-sign (string q) h g = g
+  by-sign (sign s) h g = h s
+  by-sign (mul o) h g = g
+  by-sign (rel r) h g = g
+  by-sign (fixed v) h g = g
+
+  pub by-mul : (l : Lexeme) {f : Mul → State} {t : State} → ((o : Mul) → Good read d (f o) (mul o)) → Good read d t l → Good read d (on-mul l f t) l
+  unfolding on-mul
+  by-mul (lit n) h g = g
+  by-mul (name x) h g = g
+  by-mul (class x) h g = g
+  by-mul (string q) h g = g
+  by-mul (sign s) h g = g
+  by-mul (mul o) h g = h o
+  by-mul (rel r) h g = g
+  by-mul (fixed v) h g = g
+
+  pub by-rel : (l : Lexeme) {f : Rel → State} {t : State} → ((r : Rel) → Good read d (f r) (rel r)) → Good read d t l → Good read d (on-rel l f t) l
+  unfolding on-rel
+  by-rel (lit n) h g = g
+  by-rel (name x) h g = g
+  by-rel (class x) h g = g
+  by-rel (string q) h g = g
+  by-rel (sign s) h g = g
+  by-rel (mul o) h g = g
+  by-rel (rel r) h g = h r
+  by-rel (fixed v) h g = g

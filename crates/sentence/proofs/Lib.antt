@@ -1,0 +1,8 @@
+pub mod Codes
+pub mod Walk
+pub mod Had
+pub mod Steps
+pub mod Begins
+pub mod Nestings
+pub mod Leftmost
+pub mod Refusals

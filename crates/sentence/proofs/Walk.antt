@@ -1,0 +1,154 @@
+-- A walk of the reader: the state that it comes to and, for each lexeme, the nestings it stands in. Walking a sentence gives what Sentences.antt says of it.
+use mathlib.Core.Path.{_≡_, refl, ap}
+use mathlib.Core.List.{List, [], _∷_, _++_, append-assoc}
+use mathlib.Core.Bool.{Bool, cond, _||_}
+use Prim.Native.Nat.{ℕ, suc}
+use Rattle.lexeme.specs.Coded.{code-of}
+use Rattle.lexeme.specs.Lexemes.{Name, Sign, Mul, Fixed, Lexeme, name, sign, mul, rel, fixed}
+use Rattle.lexeme.specs.Lexemes.{close-round, open-brace, close-brace, DO, ERROR, IF, INT, PRINTI, PRINTLNS, PRINTS, READ, THEN, WHILE, end}
+use Rattle.sentence.specs.Sentences.{Kind, Sen, factor, term, expression, condition, command, commands, literal, variable, bracket, first, multiply, unsigned, signed, add, negated, compare, print, print-line, print-string, declare, input, assign, error, while, when, block, single, then}
+use Rattle.sentence.specs.Sentences.{spell, program, nestings, program-nestings}
+use Rattle.sentence.specs.Reader.{Around, depth, in-first, in-multiply, in-unsigned, in-signed, in-add, in-bracket, in-left, in-right, in-print, in-assign, in-negated, in-while, in-when, in-while-body, in-when-body, in-block, in-block-after, in-program}
+use Rattle.sentence.specs.Reader.{State, want-DO, want-factor, want-expression, want-condition, want-command, got-term, got-command, whole}
+use Rattle.sentence.specs.Reader.{is, on, on-lit, on-name, on-string, on-sign, on-mul, on-rel, got-factor, at-factor, at-expression, at-condition, at-command, at-command-or-brace, after-command, after-condition, whole-expression, after-expression, whole-term, after-term, step}
+use Rattle.sentence.specs.Reader.{Verdict, verdict, goes-on, is-whole, begins-none}
+
+-- ---- the walk
+
+unfoldable pub closes : Lexeme → Bool
+closes l = is close-round l || is close-brace l
+
+-- a lexeme that closes a nesting still stands in it
+unfoldable pub nested-at : Lexeme → Verdict → ℕ
+nested-at l (goes-on d) = cond (closes l) (suc d) d
+nested-at l (is-whole m) = 0
+nested-at l begins-none = 0
+
+pub record Walked : Type 0 where
+  pub state : State
+  pub nested : List ℕ
+
+-- by the lexeme l to the state s, and on from there
+unfoldable pub went : Lexeme → State → Walked → Walked
+went l s w = record { state = w .state; nested = nested-at l (verdict s) ∷ w .nested }
+
+unfoldable pub walk : State → List Lexeme → Walked
+walk s [] = record { state = s; nested = [] }
+walk s (l ∷ ls) = went l (step s l) (walk (step s l) ls)
+
+unfoldable pub after : List ℕ → Walked → Walked
+after ns w = record { state = w .state; nested = ns ++ w .nested }
+
+pub walk-append : (s : State) (xs ys : List Lexeme) → walk s (xs ++ ys) ≡ after (walk s xs .nested) (walk (walk s xs .state) ys)
+unfolding walk went after
+walk-append s [] ys = refl
+walk-append s (x ∷ xs) ys = ap (went x (step s x)) (walk-append (step s x) xs ys)
+
+-- ---- every sentence is read
+
+-- the lexeme goes on no term; and no expression either
+abbrev No-mul : Lexeme → Type 0
+No-mul l = (f : Mul → State) (s : State) → on-mul l f s ≡ s
+
+abbrev No-sign : Lexeme → Type 0
+No-sign l = (f : Sign → State) (s : State) → on-sign l f s ≡ s
+
+abbrev walk-by : Lexeme → State → List Lexeme → Walked
+walk-by l s ls = went l s (walk s ls)
+
+-- what it is to read a construct of the kind
+Reads : (k : Kind) → Sen Name k → Type 0
+Reads factor f = (k : Around factor) (ls : List Lexeme) → walk (want-factor k) (spell f ++ ls) ≡ after (nestings (depth k) f) (walk (got-factor f k) ls)
+Reads term t = (k : Around term) (ls : List Lexeme) → walk (want-factor (in-first k)) (spell t ++ ls) ≡ after (nestings (depth k) t) (walk (got-term t k) ls)
+Reads expression e = (k : Around expression) (l : Lexeme) (ls : List Lexeme) → No-mul l → walk (want-expression k) (spell e ++ l ∷ ls) ≡ after (nestings (depth k) e) (walk-by l (after-expression e k l) ls)
+Reads condition c = (k : Around condition) (l : Lexeme) (ls : List Lexeme) → No-mul l → No-sign l → walk (want-condition k) (spell c ++ l ∷ ls) ≡ after (nestings (depth k) c) (walk-by l (after-condition c k l) ls)
+Reads command m = (k : Around command) (l : Lexeme) (ls : List Lexeme) → No-mul l → No-sign l → walk (want-command k) (spell m ++ l ∷ ls) ≡ after (nestings (depth k) m) (walk-by l (after-command m k l) ls)
+Reads commands ms = (k : Around command) (l : Lexeme) (ls : List Lexeme) → No-mul l → No-sign l → walk (want-command (in-block k)) (spell ms ++ l ∷ ls) ≡ after (nestings (suc (depth k)) ms) (walk-by l (at-command-or-brace ms k l) ls)
+
+pub factor-open : (f : Sen Name factor) (k : Around factor) → verdict (got-factor f k) ≡ goes-on (depth k)
+unfolding got-factor verdict depth
+factor-open f (in-first k) = refl
+factor-open f (in-multiply t o k) = refl
+
+-- a term with no sign before it is read where an expression is wanted
+lead : (t : Sen Name term) (k : Around expression) (ls : List Lexeme) → walk (want-expression k) (spell t ++ ls) ≡ walk (want-factor (in-first (in-unsigned k))) (spell t ++ ls)
+unfolding walk step spell at-expression on-sign
+lead (first (literal n)) k ls = refl
+lead (first (variable x)) k ls = refl
+lead (first (bracket e)) k ls = refl
+lead (multiply t o f) k ls = rw append-assoc (lead t k (mul o ∷ (spell f ++ ls)))
+
+-- an expression is read where a condition is wanted
+lead-condition-term : (t : Sen Name term) (k : Around condition) (ls : List Lexeme) → walk (want-condition k) (spell t ++ ls) ≡ walk (want-expression (in-left k)) (spell t ++ ls)
+unfolding walk step spell at-condition on is code-of
+lead-condition-term (first (literal n)) k ls = refl
+lead-condition-term (first (variable x)) k ls = refl
+lead-condition-term (first (bracket e)) k ls = refl
+lead-condition-term (multiply t o f) k ls = rw append-assoc (lead-condition-term t k (mul o ∷ (spell f ++ ls)))
+
+lead-condition : (e : Sen Name expression) (k : Around condition) (ls : List Lexeme) → walk (want-condition k) (spell e ++ ls) ≡ walk (want-expression (in-left k)) (spell e ++ ls)
+unfolding walk step spell at-condition on is
+lead-condition (unsigned t) k ls = lead-condition-term t k ls
+lead-condition (signed s t) k ls = refl
+lead-condition (add e s t) k ls = rw append-assoc (lead-condition e k (sign s ∷ (spell t ++ ls)))
+
+-- a command's first lexeme goes on no term and no expression, and closes no block
+record Begun (m : Sen Name command) : Type 0 where
+  begin : Lexeme
+  rest : List Lexeme
+  same : spell m ≡ begin ∷ rest
+  no-mul : No-mul begin
+  no-sign : No-sign begin
+  no-brace : (s t : State) → on close-brace begin s t ≡ t
+
+by-word : (w : Fixed) (m : Sen Name command) (rest : List Lexeme) → spell m ≡ fixed w ∷ rest → ((s t : State) → on close-brace (fixed w) s t ≡ t) → Begun m
+unfolding on-mul on-sign
+by-word w m rest e b = record { begin = fixed w; rest = rest; same = e; no-mul = λ f s. refl; no-sign = λ f s. refl; no-brace = b }
+
+begun : (m : Sen Name command) → Begun m
+unfolding spell on is on-mul on-sign code-of
+begun (print e) = by-word PRINTI _ _ refl (λ s t. refl)
+begun (print-line q) = by-word PRINTLNS _ _ refl (λ s t. refl)
+begun (print-string q) = by-word PRINTS _ _ refl (λ s t. refl)
+begun (declare x) = by-word INT _ _ refl (λ s t. refl)
+begun (input x) = by-word READ _ _ refl (λ s t. refl)
+begun (assign x e) = record { begin = name x; rest = _; same = refl; no-mul = λ f s. refl; no-sign = λ f s. refl; no-brace = λ s t. refl }
+begun error = by-word ERROR _ _ refl (λ s t. refl)
+begun (while c m) = by-word WHILE _ _ refl (λ s t. refl)
+begun (when c m) = by-word IF _ _ refl (λ s t. refl)
+begun (block ms) = by-word open-brace _ _ refl (λ s t. refl)
+
+reads : {k : Kind} (x : Sen Name k) → Reads k x
+unfolding Reads spell nestings depth walk went after nested-at closes verdict step at-factor at-expression at-condition at-command at-command-or-brace after-command after-condition whole-expression after-expression whole-term after-term got-factor on on-lit on-name on-string on-sign on-mul on-rel is code-of
+reads (literal n) = λ k ls. rw (factor-open (literal n) k)
+reads (variable x) = λ k ls. rw (factor-open (variable x) k)
+reads (bracket e) = λ k ls. simp append-assoc (rw (reads e (in-bracket k) (fixed close-round) ls (λ f s. refl), factor-open (bracket e) k))
+reads (first f) = λ k ls. reads f (in-first k) ls
+reads (multiply t o f) = λ k ls. simp append-assoc (rw (reads t k (mul o ∷ (spell f ++ ls)), reads f (in-multiply t o k) ls))
+reads (unsigned t) = λ k l ls h. rw (lead t k (l ∷ ls), reads t (in-unsigned k) (l ∷ ls), h (λ o. want-factor (in-multiply t o (in-unsigned k))))
+reads (signed s t) = λ k l ls h. rw (reads t (in-signed s k) (l ∷ ls), h (λ o. want-factor (in-multiply t o (in-signed s k))))
+reads (add e s t) = λ k l ls h. simp append-assoc (rw (reads e k (sign s) (spell t ++ l ∷ ls) (λ f z. refl), reads t (in-add e s k) (l ∷ ls), h (λ o. want-factor (in-multiply t o (in-add e s k)))))
+reads (negated c) = λ k l ls h g. rw (reads c (in-negated k) l ls h g)
+reads (compare d r e) = λ k l ls h g. simp append-assoc (rw (lead-condition d k (rel r ∷ (spell e ++ l ∷ ls)), reads d (in-left k) (rel r) (spell e ++ l ∷ ls) (λ f s. refl), reads e (in-right d r k) l ls h, g (λ s. want-factor (in-first (in-add e s (in-right d r k))))))
+reads (print e) = λ k l ls h g. rw (reads e (in-print k) l ls h, g (λ s. want-factor (in-first (in-add e s (in-print k)))))
+reads (print-line q) = λ k l ls h g. refl
+reads (print-string q) = λ k l ls h g. refl
+reads (declare x) = λ k l ls h g. refl
+reads (input x) = λ k l ls h g. refl
+reads (assign x e) = λ k l ls h g. rw (reads e (in-assign x k) l ls h, g (λ s. want-factor (in-first (in-add e s (in-assign x k)))))
+reads error = λ k l ls h g. refl
+reads (while c m) = λ k l ls h g. simp append-assoc (rw (reads c (in-while k) (fixed DO) (spell m ++ l ∷ ls) (λ f s. refl) (λ f s. refl), reads m (in-while-body c k) l ls h g))
+reads (when c m) = λ k l ls h g. simp append-assoc (rw (reads c (in-when k) (fixed THEN) (spell m ++ l ∷ ls) (λ f s. refl) (λ f s. refl), reads m (in-when-body c k) l ls h g))
+reads (block ms) = λ k l ls h g. simp append-assoc (rw (reads ms k (fixed close-brace) (l ∷ ls) (λ f s. refl) (λ f s. refl)))
+reads (single m) = λ k l ls h g. reads m (in-block k) l ls h g
+reads (then ms m) = λ k l ls h g.
+    let b = begun m in
+    let on-m = rw (b .same) at (reads m (in-block-after ms k) l ls h g) in
+    simp append-assoc
+    (rw (b .same, reads ms k (b .begin) (b .rest ++ l ∷ ls) (b .no-mul) (b .no-sign), b .no-brace (got-command (block ms) k) (at-command (in-block-after ms k) (b .begin)))
+    (ap (after (nestings (suc (depth k)) ms)) on-m))
+
+-- every Program is read, and its lexemes stand in the nestings that Sentences.antt says
+pub complete : (m : Sen Name command) → walk want-DO (program m ++ fixed end ∷ []) ≡ record { state = whole m; nested = program-nestings m ++ 0 ∷ [] }
+unfolding Reads program program-nestings walk went after nested-at closes verdict depth step after-command on on-mul on-sign is code-of
+complete m = rw (reads m in-program (fixed end) [] (λ f s. refl) (λ f s. refl))
