@@ -105,33 +105,34 @@ unfoldable pub value : ℕ → List ℕ → ℕ
 value n [] = n
 value n (b ∷ w) = value (n * 10 + (b - 48)) w
 
-module _ (lim : Limits) where
-  unfoldable pub letter-word : ℕ → List ℕ → Answer Next
-  letter-word p w =
-      cond (ltb (lim .word) (length w)) (refused 3 p)
-      (found p (cond (starts-small w) (name (record { letters = w; place = p })) (capital-word keywords p w)) (p + length w))
+-- a letter word at the place p, with the most letters that it may have
+unfoldable pub letter-word : ℕ → ℕ → List ℕ → Answer Next
+letter-word most p w =
+    cond (ltb most (length w)) (refused 3 p)
+    (found p (cond (starts-small w) (name (record { letters = w; place = p })) (capital-word keywords p w)) (p + length w))
 
-  unfoldable pub digit-word : ℕ → List ℕ → Answer Next
-  digit-word p w =
-      cond (ltb (lim .literal) (value 0 w)) (refused 3 p)
-      (found p (lit (value 0 w)) (p + length w))
+-- a digit word at the place p, with the most that it may be worth
+unfoldable pub digit-word : ℕ → ℕ → List ℕ → Answer Next
+digit-word most p w =
+    cond (ltb most (value 0 w)) (refused 3 p)
+    (found p (lit (value 0 w)) (p + length w))
 
-  -- a word at the place p: all letters, or all digits; a mixed word is refused
-  unfoldable pub word : ℕ → List ℕ → Answer Next
-  word p w =
-      cond (all letter w) (letter-word p w)
-      (cond (all digit w) (digit-word p w)
-      (refused 2 p))
+-- a word at the place p: all letters, or all digits; a mixed word is refused
+unfoldable pub word : Limits → ℕ → List ℕ → Answer Next
+word lim p w =
+    cond (all letter w) (letter-word (lim .word) p w)
+    (cond (all digit w) (digit-word (lim .literal) p w)
+    (refused 2 p))
 
-  -- ---- strings and symbols
+-- ---- strings and symbols
 
-  -- a string whose opening quote is at p, where s follows the quote
-  unfoldable pub string-at : ℕ → List ℕ → Answer Next
-  string-at p s =
-      let inside = run no-quote s in
-      cond (leb (length s) (length inside)) (refused 2 p)
-      (cond (ltb (lim .string) (length inside)) (refused 3 p)
-      (found p (string (record { inside = inside; place = p + 1 })) (p + length inside + 2)))
+-- a string whose opening quote is at p, where s follows the quote, with the most bytes that may stand between its quotes
+unfoldable pub string-at : ℕ → ℕ → List ℕ → Answer Next
+string-at most p s =
+    let inside = run no-quote s in
+    cond (leb (length s) (length inside)) (refused 2 p)
+    (cond (ltb most (length inside)) (refused 3 p)
+    (found p (string (record { inside = inside; place = p + 1 })) (p + length inside + 2)))
 
 pub record Symbol : Type 0 where
   pub byte : ℕ
@@ -175,7 +176,7 @@ module _ (lim : Limits) where
   here p [] = given nothing
   here p (b ∷ s) =
       cond (letter-or-digit b) (word lim p (run letter-or-digit (b ∷ s)))
-      (cond (eqb b 34) (string-at lim p s)
+      (cond (eqb b 34) (string-at (lim .string) p s)
       (cond (eqb b 58) (colon p s)
       (symbol symbols p b)))
 
