@@ -10,9 +10,11 @@ use lib.Dec.{eqb}
 use lib.ListN.{length, getD, drop, drop-of-length-le}
 use lib.Seq.{drop-cons}
 use borrow.Author.Tests.{eq-eqb, ne-eqb}
-use Rattle.lexeme.specs.Bytes.{same}
-use Rattle.lexeme.specs.Lexemes.{value, Keyword}
-use Rattle.lexeme.specs.Coded.{fixed-code, keyword-code}
+use Rattle.lexeme.specs.Bytes.{small, same}
+use Rattle.lexeme.specs.Lexemes.{value, Keyword, fixed, capital-word, starts-small}
+use Rattle.lexeme.specs.Coded.{fixed-code, kind-of}
+use Rattle.lexeme.specs.declared.Kind.{Kind}
+use Rattle.lexeme.specs.declared.Kind.the-variants.{Fixed}
 
 -- two words after the test of their first bytes
 abbrev after : List ℕ → List ℕ → Bool → Bool
@@ -59,14 +61,28 @@ value-grows n [] = le-refl n
 value-grows n (b ∷ w) = omega (arith, value-grows (n * 10 + (b - 48)) w)
 
 -- the keyword k, of those that are left, is the word w, or is not
-module _ (k : Keyword) (ks : List Keyword) (w : List ℕ) {r : Bool} (tested : r ≡ same w (k .spelled)) where
-  abbrev after-test : Bool → ℕ
-  after-test t = elim t [ true ↦ fixed-code (k .means) | false ↦ keyword-code ks w ]
+module _ (k : Keyword) (ks : List Keyword) (w : List ℕ) (p : ℕ) {r : Bool} (tested : r ≡ same w (k .spelled)) where
+  abbrev after-test : Bool → Kind
+  after-test t = kind-of (elim t [ true ↦ fixed (k .means) | false ↦ capital-word ks p w ])
 
-  pub keyword-hit : r ≡ true → fixed-code (k .means) ≡ keyword-code (k ∷ ks) w
-  unfolding keyword-code
+  pub keyword-hit : r ≡ true → Fixed (fixed-code (k .means)) ≡ kind-of (capital-word (k ∷ ks) p w)
+  unfolding capital-word kind-of
   keyword-hit h = ap after-test (sym h ∙ tested)
 
-  pub keyword-miss : r ≡ false → keyword-code ks w ≡ keyword-code (k ∷ ks) w
-  unfolding keyword-code
+  pub keyword-miss : r ≡ false → kind-of (capital-word ks p w) ≡ kind-of (capital-word (k ∷ ks) p w)
+  unfolding capital-word
   keyword-miss h = ap after-test (sym h ∙ tested)
+
+-- the first n of the keywords ks are not the word
+abbrev pub Left : List Keyword → ℕ → ℕ → List ℕ → Type 0
+Left ks n p w = kind-of (capital-word (drop n ks) p w) ≡ kind-of (capital-word ks p w)
+
+pub starts-empty : (w : List ℕ) → length w ≡ 0 → false ≡ starts-small w
+unfolding starts-small
+starts-empty [] e = refl
+starts-empty (b ∷ w) e = absurd (omega arith)
+
+pub starts-first : (w : List ℕ) → (length w ≡ 0 → ⊥) → starts-small w ≡ small (getD w 0 0)
+unfolding starts-small
+starts-first [] n = absurd (n refl)
+starts-first (b ∷ w) n = refl

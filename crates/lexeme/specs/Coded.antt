@@ -1,11 +1,11 @@
 -- How the code writes lexemes: its enums and numbers for those of the definitions.
-use mathlib.Core.List.{List, [], _∷_}
-use mathlib.Core.Bool.{Bool, true, false}
+use mathlib.Core.List.{List}
+use mathlib.Core.Bool.{Bool}
 use Prim.Native.Nat.{ℕ}
 use Prim.Native.Char.{code}
 use Rattle.lexeme.specs.Answers.{Answer, given, refused}
-use Rattle.lexeme.specs.Bytes.{separator, letter, letter-or-digit, digit, no-quote, same}
-use Rattle.lexeme.specs.Lexemes.{Sign, plus, minus, Mul, times, over, Rel, less, greater, equal, Fixed, open-round, close-round, open-square, close-square, open-brace, close-brace, comma, dot, becomes, CALL, CLASS, DO, ERROR, FIELDS, IF, INIT, INT, METHOD, NOT, OBJ, PRINTI, PRINTLNS, PRINTS, PROCEDURE, READ, RETURNS, SUBCLASSOF, THEN, USING, WHILE, end, lit, name, class, string, sign, mul, rel, fixed, Placed, Next, lexeme, nothing, Keyword}
+use Rattle.lexeme.specs.Bytes.{separator, letter, letter-or-digit, digit, no-quote}
+use Rattle.lexeme.specs.Lexemes.{Sign, plus, minus, Mul, times, over, Rel, less, greater, equal, Fixed, open-round, close-round, open-square, close-square, open-brace, close-brace, comma, dot, becomes, CALL, CLASS, DO, ERROR, FIELDS, IF, INIT, INT, METHOD, NOT, OBJ, PRINTI, PRINTLNS, PRINTS, PROCEDURE, READ, RETURNS, SUBCLASSOF, THEN, USING, WHILE, end, lit, name, class, string, sign, mul, rel, fixed, Placed, Next, lexeme, nothing}
 use Rattle.lexeme.specs.Lexemes as lexemes
 use Rattle.lexeme.specs.declared.Such.{Such}
 use Rattle.lexeme.specs.declared.Such.the-variants.{Separator, Letter, LetterOrDigit, Digit, NoQuote}
@@ -70,11 +70,6 @@ fixed-code THEN = 19
 fixed-code USING = 20
 fixed-code WHILE = 21
 fixed-code end = 0
-
--- the number of the word w, or 0 where it is no keyword
-unfoldable pub keyword-code : List Keyword → List ℕ → ℕ
-keyword-code [] w = 0
-keyword-code (k ∷ ks) w = elim (same w (k .spelled)) [ true ↦ fixed-code (k .means) | false ↦ keyword-code ks w ]
 
 -- the letters of a word and the bytes of a string stand in the text
 unfoldable pub kind-of : lexemes.Lexeme → Kind

@@ -105,6 +105,18 @@ unfoldable pub value : ℕ → List ℕ → ℕ
 value n [] = n
 value n (b ∷ w) = value (n * 10 + (b - 48)) w
 
+-- the limits of refusal 3
+pub record Sizes : Type 0 where
+  -- letters of a letter word
+  pub word : ℕ
+  -- bytes between a string's quotes
+  pub string : ℕ
+  -- the value of a literal
+  pub literal : ℕ
+
+abbrev pub sizes : Limits → Sizes
+sizes lim = record { word = lim .word; string = lim .string; literal = lim .literal }
+
 -- a letter word at the place p, with the most letters that it may have
 unfoldable pub letter-word : ℕ → ℕ → List ℕ → Answer Next
 letter-word most p w =
@@ -118,10 +130,10 @@ digit-word most p w =
     (found p (lit (value 0 w)) (p + length w))
 
 -- a word at the place p: all letters, or all digits; a mixed word is refused
-unfoldable pub word : Limits → ℕ → List ℕ → Answer Next
-word lim p w =
-    cond (all letter w) (letter-word (lim .word) p w)
-    (cond (all digit w) (digit-word (lim .literal) p w)
+unfoldable pub word : Sizes → ℕ → List ℕ → Answer Next
+word most p w =
+    cond (all letter w) (letter-word (most .word) p w)
+    (cond (all digit w) (digit-word (most .literal) p w)
     (refused 2 p))
 
 -- ---- strings and symbols
@@ -170,13 +182,13 @@ colon p (b ∷ s) = cond (eqb b 61) (found p (fixed becomes) (p + 2)) (refused 2
 
 -- ---- a whole text
 
-module _ (lim : Limits) where
+module _ (most : Sizes) where
   -- what begins at the place p, where no separator stands
   unfoldable pub here : ℕ → List ℕ → Answer Next
   here p [] = given nothing
   here p (b ∷ s) =
-      cond (letter-or-digit b) (word lim p (run letter-or-digit (b ∷ s)))
-      (cond (eqb b 34) (string-at (lim .string) p s)
+      cond (letter-or-digit b) (word most p (run letter-or-digit (b ∷ s)))
+      (cond (eqb b 34) (string-at (most .string) p s)
       (cond (eqb b 58) (colon p s)
       (symbol symbols p b)))
 
@@ -186,11 +198,11 @@ module _ (lim : Limits) where
 
 -- ---- all lexemes of a text, or its leftmost refusal of 2 and 3
 
-module _ (lim : Limits) (text : List ℕ) where
+module _ (most : Sizes) (text : List ℕ) where
   -- from a place on, with more fuel than bytes left
   unfoldable pub lexemes-from : ℕ → ℕ → Answer (List Placed)
   lexemes-from zero at = given []
-  lexemes-from (suc fuel) at = pass (next lim text at) λ n. elim n [
+  lexemes-from (suc fuel) at = pass (next most text at) λ n. elim n [
     | lexeme l e ↦ pass (lexemes-from fuel e) (λ ls. given (l ∷ ls))
     | nothing ↦ given (record { place = length text; what = fixed end } ∷ [])
   ]

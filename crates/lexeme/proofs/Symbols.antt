@@ -1,0 +1,45 @@
+-- Laws for a `match` on a byte over a table. Assumes nothing.
+use mathlib.Core.Path.{_≡_, refl, sym, subst, ap, _∙_}
+use mathlib.Core.Logic.{inl, inr, ⊎-elim}
+use mathlib.Core.List.{List, [], _∷_}
+use mathlib.Core.Bool.{Bool, true, false}
+use Prim.Native.Nat.{ℕ, zero, suc, _+_, _≤_, _<_}
+use native.Mathlib.Nat.{eq-or-lt-of-le}
+use native.Mathlib.Omega.{arith}
+use borrow.Author.Tests.{ne-eqb}
+use types.Run.{OneOf}
+use Rattle.lexeme.specs.Answers.{Answer, refused}
+use Rattle.lexeme.specs.Lexemes.{Next, Symbol, symbol, found}
+
+-- what holds of each number of a list holds of a number that is one of them
+abbrev pub Each : (ℕ → Type 0) → List ℕ → Type 0
+Each P [] = Unit {0}
+Each P (k ∷ ks) = P k × Each P ks
+
+pub one-of : (P : ℕ → Type 0) (k : ℕ) (ks : List ℕ) (x : ℕ) → Each P (k ∷ ks) → OneOf (k ∷ ks) x → P x
+one-of P k [] x h e = subst P (sym e) (h .0)
+one-of P k (k′ ∷ ks) x h (inl e) = subst P (sym e) (h .0)
+one-of P k (k′ ∷ ks) x h (inr r) = one-of P k′ ks x (h .1) r
+
+-- a number from low on, at most n above it, is one of these
+abbrev pub from : ℕ → ℕ → List ℕ
+from low zero = []
+from low (suc n) = suc low ∷ from (suc low) n
+
+pub in-range : (n low x : ℕ) → low ≤ x → x ≤ low + n → OneOf (low ∷ from low n) x
+in-range zero low x p q = omega arith
+in-range (suc n) low x p q =
+    ⊎-elim
+    (λ (e : low ≡ x). inl (sym e))
+    (λ (h : low < x). inr (in-range n (suc low) x (omega arith) (omega arith)))
+    (eq-or-lt-of-le p)
+
+-- a byte that is no symbol
+abbrev pub None : List Symbol → ℕ → Type 0
+None [] b = Unit {0}
+None (y ∷ ys) b = (b ≡ y .byte → ⊥) × None ys b
+
+pub symbol-none : (ys : List Symbol) (p b : ℕ) → None ys b → refused 2 p ≡ symbol ys p b
+unfolding symbol
+symbol-none [] p b h = refl
+symbol-none (y ∷ ys) p b h = symbol-none ys p b (h .1) ∙ ap (λ (t : Bool). elim t [ true ↦ found p (y .means) (p + 1) | false ↦ symbol ys p b ]) (sym (ne-eqb b (y .byte) (h .0)))
