@@ -11,15 +11,18 @@ use types.Run.{OneOf}
 use Rattle.lexeme.specs.Answers.{Answer, refused}
 use Rattle.lexeme.specs.Lexemes.{Next, Symbol, symbol, found}
 
--- what holds of each number of a list holds of a number that is one of them
-abbrev pub Each : (ℕ → Type 0) → List ℕ → Type 0
-Each P [] = Unit {0}
-Each P (k ∷ ks) = P k × Each P ks
+-- what holds of each element of a list
+infixr 5 _also_
 
-pub one-of : (P : ℕ → Type 0) (k : ℕ) (ks : List ℕ) (x : ℕ) → Each P (k ∷ ks) → OneOf (k ∷ ks) x → P x
-one-of P k [] x h e = subst P (sym e) (h .0)
-one-of P k (k′ ∷ ks) x h (inl e) = subst P (sym e) (h .0)
-one-of P k (k′ ∷ ks) x h (inr r) = one-of P k′ ks x (h .1) r
+pub data Each {A : Type 0} (P : A → Type 0) : List A → Type 0 where
+  nil : Each P []
+  _also_ : {a : A} {rest : List A} → P a → Each P rest → Each P (a ∷ rest)
+
+-- holds of a number that is one of the list
+pub one-of : (P : ℕ → Type 0) {k : ℕ} {ks : List ℕ} (x : ℕ) → Each P (k ∷ ks) → OneOf (k ∷ ks) x → P x
+one-of P x (h also nil) e = subst P (sym e) h
+one-of P x (h also (h′ also hs)) (inl e) = subst P (sym e) h
+one-of P x (h also (h′ also hs)) (inr r) = one-of P x (h′ also hs) r
 
 -- a number from low on, at most n above it, is one of these
 abbrev pub from : ℕ → ℕ → List ℕ
@@ -35,11 +38,7 @@ in-range (suc n) low x p q =
     (eq-or-lt-of-le p)
 
 -- a byte that is no symbol
-abbrev pub None : List Symbol → ℕ → Type 0
-None [] b = Unit {0}
-None (y ∷ ys) b = (b ≡ y .byte → ⊥) × None ys b
-
-pub symbol-none : (ys : List Symbol) (p b : ℕ) → None ys b → refused 2 p ≡ symbol ys p b
+pub symbol-none : {ys : List Symbol} (p b : ℕ) → Each (λ (y : Symbol). b ≡ y .byte → ⊥) ys → refused 2 p ≡ symbol ys p b
 unfolding symbol
-symbol-none [] p b h = refl
-symbol-none (y ∷ ys) p b h = symbol-none ys p b (h .1) ∙ ap (λ (t : Bool). elim t [ true ↦ found p (y .means) (p + 1) | false ↦ symbol ys p b ]) (sym (ne-eqb b (y .byte) (h .0)))
+symbol-none p b nil = refl
+symbol-none p b (_also_ {a = y} {rest = ys} h hs) = symbol-none p b hs ∙ ap (λ (t : Bool). elim t [ true ↦ found p (y .means) (p + 1) | false ↦ symbol ys p b ]) (sym (ne-eqb b (y .byte) h))

@@ -295,7 +295,7 @@ fn colon_at(text: &[u8], p: usize) -> Found
     let q = p + 1;
     if q < text.len() {
         if text[q] == b'=' {
-            return Found::Is(Lexeme { kind: Kind::Fixed(b':'), place: p, end: q + 1 });
+            return Found::Is(Lexeme { kind: Kind::Fixed(b':'), place: p, end: p + 2 });
         }
     }
     Found::Refused(2, p)

@@ -1,32 +1,36 @@
+-- `lexeme::colon_at` meets its contract. Assumes nothing.
+use Prim.Native.Nat.{_+_}
+use native.Mathlib.Omega.{arith}
+use borrow.Author.Tests.{eq-eqb, ne-eqb}
+use denote.Ref.{now}
+use lib.ListN.{drop-of-length-le}
+use lib.Seq.{drop-cons}
+use Rattle.lexeme.specs.Lexemes.{colon, found}
+use Rattle.lexeme.specs.Coded.{kind-of, coded, fixed-code}
 use borrow.Author.Needs.{needs}
 use Rattle.lexeme.proofs.colon_at.Statement.{statement}
 use Rattle.lexeme.proofs.colon_at.Tie as tie
-use Rattle.lexeme.proofs.colon_at.Reads as reads
-use Rattle.lexeme.proofs.colon_at.Lts as lts
 
--- src/lib.rt:298:13
 add-q : tie.Need-add-q
 add-q c = search needs
 
--- src/lib.rt:300:12
 shared-slice-read-if2 : tie.Need-shared-slice-read-if2
 shared-slice-read-if2 c = search needs
 
--- src/lib.rt:301:79
 add-t10 : tie.Need-add-t10
 add-t10 c = search needs
 
--- src/lib.rt:301:13
 returns : tie.Need-returns
-returns c = ?
+unfolding colon found coded kind-of fixed-code
+returns c = rw (drop-cons (now (c .before .before .before .args .text)) (c .before .before .before .args .p + 1) 0 (c .before .before .if1 .taken), eq-eqb _ 61 (c .if2 .taken))
 
--- src/lib.rt:294:1
 returns-2 : tie.Need-returns-2
-returns-2 c = ?
+unfolding colon found coded kind-of fixed-code
+returns-2 c = rw (drop-cons (now (c .before .before .before .args .text)) (c .before .before .before .args .p + 1) 0 (c .before .before .if1 .taken), ne-eqb _ 61 (c .if2 .left))
 
--- src/lib.rt:294:1
 returns-3 : tie.Need-returns-3
-returns-3 c = ?
+unfolding colon found coded kind-of fixed-code
+returns-3 c = rw (drop-of-length-le (now (c .before .args .text)) (c .if1 .left))
 
 pub colon-at-spec : {M : Type 1} → statement M
 colon-at-spec =

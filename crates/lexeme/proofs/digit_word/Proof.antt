@@ -1,62 +1,64 @@
+-- `lexeme::digit_word` meets its contract: the value from `i` on is the whole value, and it only grows. Assumes nothing.
+use Prim.Native.Nat.{ℕ, _+_, _*_, _≤_, _-_}
+use mathlib.Core.Path.{_≡_, refl, sym, _∙_}
+use native.Mathlib.Omega.{arith}
+use borrow.Author.Needs.{needs}
+use borrow.Author.Tests.{lt-ltb, le-ltb}
+use denote.Ref.{now}
+use lib.ListN.{length, drop}
+use Rattle.lexeme.specs.Lexemes.{value, digit-word, found}
+use Rattle.lexeme.specs.Coded.{kind-of, coded}
+use Rattle.lexeme.proofs.Words.{value-on, value-out, value-grows}
 use Rattle.lexeme.proofs.digit_word.Statement.{statement}
 use Rattle.lexeme.proofs.digit_word.Tie as tie
-use Rattle.lexeme.proofs.digit_word.Reads as reads
-use Rattle.lexeme.proofs.digit_word.Lts as lts
-use Rattle.lexeme.proofs.worth.Reads as worth-reads
 
 abbrev Inv-loop : tie.InvT-loop
-Inv-loop word p e value₀ i₀ value i = ?
+Inv-loop word p e v₀ i₀ v i = (v ≤ 2147483647) × (value v (drop i word) ≡ value 0 word)
 
 abbrev μ-loop : tie.MeasureT-loop
-μ-loop word p e value₀ i₀ value i = ?
+μ-loop word p e value₀ i₀ value i = length word - i
 
--- src/lib.rt:254:5
 loop-holds : tie.Need-loop-holds Inv-loop μ-loop
-loop-holds c = ?
+loop-holds c = (omega arith, refl)
 
--- src/lib.rt:255:17
 mul-value : tie.Need-mul-value Inv-loop μ-loop
-mul-value c = ?
+mul-value c = omega arith
 
--- src/lib.rt:255:36
 shared-slice-read-worth : tie.Need-shared-slice-read-worth Inv-loop μ-loop
-shared-slice-read-worth c = ?
+shared-slice-read-worth c = omega arith
 
--- src/lib.rt:255:30
 worth-requires : tie.Need-worth-requires Inv-loop μ-loop
-worth-requires c κs = ?
+worth-requires c κs = search needs
 
--- src/lib.rt:255:17
 add-value : tie.Need-add-value Inv-loop μ-loop
-add-value c = ?
+add-value c = omega (arith, c .before .shared-slice-known2 .given (c .before .before .before .loop .i))
 
--- src/lib.rt:256:13
 cast-if1 : tie.Need-cast-if1 Inv-loop μ-loop
-cast-if1 c = ?
+cast-if1 c = search needs
 
--- src/lib.rt:257:13
+-- the value after one byte more, with all that is left, is the whole value
+on : (c : tie.After-worth Inv-loop μ-loop) → value (c .before .before .before .loop .value * 10 + c .worth .result) (drop (c .before .before .before .loop .i + 1) (now (c .before .before .before .before .before .args .word))) ≡ value 0 (now (c .before .before .before .before .before .args .word))
+on c = rw (c .worth .ensures) (value-on _ _ _ (c .before .before .loop-test .taken) ∙ c .before .before .before .loop .inv .1)
+
 returns : tie.Need-returns Inv-loop μ-loop
-returns c = ?
+unfolding digit-word found coded kind-of
+returns c = rw (lt-ltb 2147483647 (value 0 (now (c .before .before .before .before .before .before .args .word))) (omega (arith, value-grows (c .before .before .before .before .loop .value * 10 + c .before .worth .result) (drop (c .before .before .before .before .loop .i + 1) (now (c .before .before .before .before .before .before .args .word))), on (c .before))))
 
--- src/lib.rt:259:9
 add-i : tie.Need-add-i Inv-loop μ-loop
-add-i c = ?
+add-i c = omega arith
 
--- src/lib.rt:254:5
 loop-less : tie.Need-loop-less Inv-loop μ-loop
-loop-less c = ?
+loop-less c = omega arith
 
--- src/lib.rt:254:5
 loop-again : tie.Need-loop-again Inv-loop μ-loop
-loop-again c = ?
+loop-again c = (omega arith, on (c .before))
 
--- src/lib.rt:261:44
 cast-t12 : tie.Need-cast-t12 Inv-loop μ-loop
-cast-t12 c = ?
+cast-t12 c = omega arith
 
--- src/lib.rt:248:1
 returns-2 : tie.Need-returns-2 Inv-loop μ-loop
-returns-2 c = ?
+unfolding digit-word found coded kind-of
+returns-2 c = let e : value 0 (now (c .before .before .before .args .word)) ≡ c .before .loop .value = sym (c .before .loop .inv .1) ∙ value-out _ _ _ (c .loop-test .left) in rw (e, le-ltb 2147483647 _ (c .before .loop .inv .0), ← c .before .before .before .pre)
 
 pub digit-word-spec : {M : Type 1} → statement M
 digit-word-spec =

@@ -1,30 +1,28 @@
+-- `lexeme::letter_word` meets its contract. Assumes nothing.
+use borrow.Author.Tests.{lt-ltb, le-ltb}
+use Rattle.lexeme.specs.Lexemes.{letter-word, found}
+use Rattle.lexeme.specs.Coded.{kind-of, coded}
 use borrow.Author.Needs.{needs}
 use Rattle.lexeme.proofs.letter_word.Statement.{statement}
 use Rattle.lexeme.proofs.letter_word.Tie as tie
-use Rattle.lexeme.proofs.letter_word.Reads as reads
-use Rattle.lexeme.proofs.letter_word.Lts as lts
-use Rattle.lexeme.proofs.capital_word.Reads as capital-word-reads
-use Rattle.lexeme.proofs.starts_small.Reads as starts-small-reads
 
--- src/lib.rt:225:9
 returns : tie.Need-returns
-returns c = ?
+unfolding letter-word found coded kind-of
+returns c = rw (lt-ltb 32 _ (c .if1 .taken))
 
--- src/lib.rt:227:8
 starts-small-requires : tie.Need-starts-small-requires
 starts-small-requires c κs = search needs
 
--- src/lib.rt:228:9
 returns-2 : tie.Need-returns-2
-returns-2 c = ?
+unfolding letter-word found coded kind-of
+returns-2 c = rw (le-ltb 32 _ (c .before .before .if1 .left), ← c .before .starts-small .ensures, c .if2 .taken, ← c .before .before .before .before .pre)
 
--- src/lib.rt:230:9
 capital-word-requires : tie.Need-capital-word-requires
 capital-word-requires c κs = search needs
 
--- src/lib.rt:220:1
 returns-3 : tie.Need-returns-3
-returns-3 c = ?
+unfolding letter-word found coded kind-of
+returns-3 c = rw (le-ltb 32 _ (c .before .before .before .if1 .left), ← c .before .before .starts-small .ensures, c .before .if2 .left, ← c .before .before .before .before .before .pre, c .capital-word .ensures (c .before .before .before .before .before .args .p))
 
 pub letter-word-spec : {M : Type 1} → statement M
 letter-word-spec =

@@ -1,39 +1,33 @@
+-- `lexeme::word_at` meets its contract. Assumes nothing.
+use Rattle.lexeme.specs.Lexemes.{word}
+use Rattle.lexeme.specs.Coded.{such, coded}
 use borrow.Author.Needs.{needs}
 use Rattle.lexeme.proofs.word_at.Statement.{statement}
 use Rattle.lexeme.proofs.word_at.Tie as tie
-use Rattle.lexeme.proofs.word_at.Reads as reads
-use Rattle.lexeme.proofs.word_at.Lts as lts
-use Rattle.lexeme.proofs.digit_word.Reads as digit-word-reads
-use Rattle.lexeme.proofs.is_all.Reads as is-all-reads
-use Rattle.lexeme.proofs.letter_word.Reads as letter-word-reads
 
--- src/lib.rt:269:8
 is-all-requires : tie.Need-is-all-requires
 is-all-requires c κs = search needs
 
--- src/lib.rt:270:9
 letter-word-requires : tie.Need-letter-word-requires
 letter-word-requires c κs = search needs
 
--- src/lib.rt:270:9
 returns : tie.Need-returns
-returns c = ?
+unfolding word such
+returns c = rw (← c .before .before .is-all .ensures, c .before .if1 .taken) (c .letter-word .ensures)
 
--- src/lib.rt:272:8
 is-all-requires-2 : tie.Need-is-all-requires-2
 is-all-requires-2 c κs = search needs
 
--- src/lib.rt:273:9
 digit-word-requires : tie.Need-digit-word-requires
 digit-word-requires c κs = search needs
 
--- src/lib.rt:273:9
 returns-2 : tie.Need-returns-2
-returns-2 c = ?
+unfolding word such
+returns-2 c = rw (← c .before .before .before .before .is-all .ensures, c .before .before .before .if1 .left, ← c .before .before .is-all2 .ensures, c .before .if2 .taken) (c .digit-word .ensures)
 
--- src/lib.rt:265:1
 returns-3 : tie.Need-returns-3
-returns-3 c = ?
+unfolding word such coded
+returns-3 c = rw (← c .before .before .before .is-all .ensures, c .before .before .if1 .left, ← c .before .is-all2 .ensures, c .if2 .left)
 
 pub word-at-spec : {M : Type 1} → statement M
 word-at-spec =
