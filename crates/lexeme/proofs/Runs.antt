@@ -2,7 +2,7 @@
 use mathlib.Core.Path.{_≡_, refl, ap, _∙_}
 use mathlib.Core.List.{List, [], _∷_}
 use mathlib.Core.Bool.{Bool, true, false}
-use Prim.Native.Nat.{ℕ, suc, _+_, _≤_, _<_}
+use Prim.Native.Nat.{ℕ, suc, _+_, _-_, _≤_, _<_}
 use native.Mathlib.Nat.{le-refl}
 use native.Mathlib.Numerals.{add-one}
 use native.Mathlib.Omega.{arith}
@@ -33,6 +33,10 @@ module _ (such : ℕ → Bool) where
       by-test : take (length (run such s)) s ≡ run such s → (t : Bool) → take (length (after b s t)) (b ∷ s) ≡ after b s t
       by-test e true = ap (λ (l : List ℕ). b ∷ l) e
       by-test e false = refl
+
+  -- a run from the place p on, as the part of s up to its end
+  pub run-part : (s : List ℕ) (p e : ℕ) → e ≡ p + length (run such (drop p s)) → take (e - p) (drop p s) ≡ run such (drop p s)
+  run-part s p e h = let n : e - p ≡ length (run such (drop p s)) = omega arith in rw n (run-take (drop p s))
 
   pub run-fits : (s : List ℕ) → length (run such s) ≤ length s
   unfolding run

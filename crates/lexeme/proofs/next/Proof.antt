@@ -1,82 +1,74 @@
+-- `lexeme::next` meets its contract. Assumes nothing.
+use mathlib.Core.Path.{sym, ap, _∙_}
+use native.Mathlib.Omega.{arith}
+use borrow.Author.Tests.{eq-eqb, ne-eqb}
+use denote.Ref.{now}
+use lib.ListN.{drop, length-drop}
+use Rattle.lexeme.specs.Bytes.{letter-or-digit}
+use Rattle.lexeme.specs.Lexemes.{next}
+use Rattle.lexeme.specs.Coded.{such, coded}
+use Rattle.lexeme.proofs.Runs.{run-part, run-fits}
+use Rattle.lexeme.proofs.Places.{here-end, here-word, here-other}
 use borrow.Author.Needs.{needs}
 use Rattle.lexeme.proofs.next.Statement.{statement}
 use Rattle.lexeme.proofs.next.Tie as tie
-use Rattle.lexeme.proofs.next.Reads as reads
-use Rattle.lexeme.proofs.next.Lts as lts
-use Rattle.lexeme.proofs.colon_at.Reads as colon-at-reads
-use Rattle.lexeme.proofs.is_such.Reads as is-such-reads
-use Rattle.lexeme.proofs.run_end.Reads as run-end-reads
-use Rattle.lexeme.proofs.string_at.Reads as string-at-reads
-use Rattle.lexeme.proofs.symbol_at.Reads as symbol-at-reads
-use Rattle.lexeme.proofs.word_at.Reads as word-at-reads
 
--- src/lib.rt:325:9
 run-end-requires : tie.Need-run-end-requires
 run-end-requires c κs = search needs
 
--- src/lib.rt:327:9
 returns : tie.Need-returns
-returns c = ?
+unfolding next such coded
+returns c = rw (← c .before .run-end .ensures) (ap coded (here-end _ _ _ (c .if1 .taken)))
 
--- src/lib.rt:329:13
 shared-slice-read-b : tie.Need-shared-slice-read-b
 shared-slice-read-b c = search needs
 
--- src/lib.rt:330:8
 is-such-requires : tie.Need-is-such-requires
 is-such-requires c κs = search needs
 
--- src/lib.rt:331:13
 run-end-requires-2 : tie.Need-run-end-requires-2
 run-end-requires-2 c κs = search needs
 
--- src/lib.rt:332:24
 sub-word-at : tie.Need-sub-word-at
 sub-word-at c = search needs
 
--- src/lib.rt:332:24
 part-word-at-start : tie.Need-part-word-at-start
 part-word-at-start c = search needs
 
--- src/lib.rt:332:24
 part-word-at-end : tie.Need-part-word-at-end
-part-word-at-end c = ?
+unfolding such
+part-word-at-end c = omega (arith, c .run-end2 .ensures, run-fits letter-or-digit (drop (c .before .before .before .before .before .run-end .result) (now (c .before .before .before .before .before .before .before .args .text))), length-drop (c .before .before .before .before .before .run-end .result) (now (c .before .before .before .before .before .before .before .args .text)))
 
--- src/lib.rt:332:9
 word-at-requires : tie.Need-word-at-requires
 word-at-requires c κs = search needs
 
--- src/lib.rt:332:9
 returns-2 : tie.Need-returns-2
-returns-2 c = ?
+unfolding next such
+returns-2 c = rw (← c .before .before .before .before .before .before .before .run-end .ensures, here-word _ (now (c .before .before .before .before .before .before .before .before .before .args .text)) (c .before .before .before .before .before .before .before .run-end .result) (omega arith) (sym (c .before .before .before .before .is-such .ensures) ∙ c .before .before .before .if2 .taken), ← run-part letter-or-digit (now (c .before .before .before .before .before .before .before .before .before .args .text)) (c .before .before .before .before .before .before .before .run-end .result) _ (c .before .before .run-end2 .ensures)) (c .word-at .ensures)
 
--- src/lib.rt:335:17
 string-at-requires : tie.Need-string-at-requires
 string-at-requires c κs = search needs
 
--- src/lib.rt:336:17
 colon-at-requires : tie.Need-colon-at-requires
 colon-at-requires c κs = search needs
 
--- src/lib.rt:337:30
 add-symbol-at : tie.Need-add-symbol-at
 add-symbol-at c = search needs
 
--- src/lib.rt:337:14
 symbol-at-requires : tie.Need-symbol-at-requires
 symbol-at-requires c κs = search needs
 
--- src/lib.rt:322:1
 returns-3 : tie.Need-returns-3
-returns-3 c = ?
+unfolding next such
+returns-3 c = rw (← c .before .before .before .before .before .before .run-end .ensures, here-other _ (now (c .before .before .before .before .before .before .before .before .args .text)) (c .before .before .before .before .before .before .run-end .result) (omega arith) (sym (c .before .before .before .is-such .ensures) ∙ c .before .before .if2 .left), c .before .match .keys1) (c .string-at .ensures)
 
--- src/lib.rt:322:1
 returns-4 : tie.Need-returns-4
-returns-4 c = ?
+unfolding next such
+returns-4 c = rw (← c .before .before .before .before .before .before .run-end .ensures, here-other _ (now (c .before .before .before .before .before .before .before .before .args .text)) (c .before .before .before .before .before .before .run-end .result) (omega arith) (sym (c .before .before .before .is-such .ensures) ∙ c .before .before .if2 .left), c .before .match .keys2) (c .colon-at .ensures)
 
--- src/lib.rt:322:1
 returns-5 : tie.Need-returns-5
-returns-5 c = ?
+unfolding next such
+returns-5 c = rw (← c .before .before .before .before .before .before .run-end .ensures, here-other _ (now (c .before .before .before .before .before .before .before .before .args .text)) (c .before .before .before .before .before .before .run-end .result) (omega arith) (sym (c .before .before .before .is-such .ensures) ∙ c .before .before .if2 .left), ne-eqb _ 34 (c .before .match .rest .0 .1), ne-eqb _ 58 (c .before .match .rest .1)) (c .symbol-at .ensures)
 
 pub next-spec : {M : Type 1} → statement M
 next-spec =
