@@ -7,7 +7,7 @@ use lib.IntN.{ℤ, pos}
 use lib.ListN.{length, replicate}
 use Rattle.limits.specs.Limits.{Limits}
 use Rattle.lexeme.specs.Answers.{Answer, given, refused, pass}
-use Rattle.lexeme.specs.Lexemes.{Placed, lexemes}
+use Rattle.lexeme.specs.Lexemes.{Placed, sizes, lexemes}
 use Rattle.sentence.specs.Sentences.{Sen, command}
 use Rattle.sentence.specs.Reader.{read}
 use Rattle.names.specs.Names.{Known, resolved}
@@ -36,7 +36,7 @@ module _ (limits : Limits) where
   unfoldable pub lexed : List ℕ → Answer (List Placed)
   lexed text =
       pass (short-enough (limits .text) text) λ _.
-      lexemes (limits .sizes) text
+      lexemes (sizes limits) text
 
   -- what the sentences decide: the leftmost of 4 and 5; then of 6 and 7; then 8. A code table of n numbers holds the pairs that fit.
   unfoldable pub laid-out : List Placed → ℕ → Answer Accepted

@@ -4,7 +4,7 @@ use mathlib.Core.List.{List, [], _∷_}
 use mathlib.Core.Bool.{true, false}
 use Prim.Native.Nat.{ℕ}
 use lib.Dec.{eqb}
-use Rattle.lexeme.specs.Coded.{code-of}
+use Rattle.lexeme.specs.Coded.{fixed-code}
 use Rattle.lexeme.specs.Lexemes.{Fixed, open-round, close-round, open-square, close-square, open-brace, close-brace, comma, dot, becomes, CALL, CLASS, DO, ERROR, FIELDS, IF, INIT, INT, METHOD, NOT, OBJ, PRINTI, PRINTLNS, PRINTS, PROCEDURE, READ, RETURNS, SUBCLASSOF, THEN, USING, WHILE, end}
 
 every : List Fixed
@@ -12,12 +12,12 @@ every = open-round ∷ close-round ∷ open-square ∷ close-square ∷ open-bra
 
 -- the first of these with the code
 coded : ℕ → List Fixed → Fixed
-unfolding code-of
+unfolding fixed-code
 coded n [] = end
-coded n (w ∷ ws) = elim (eqb (code-of w) n) [ true ↦ w | false ↦ coded n ws ]
+coded n (w ∷ ws) = elim (eqb (fixed-code w) n) [ true ↦ w | false ↦ coded n ws ]
 
-coded-back : (v : Fixed) → coded (code-of v) every ≡ v
-unfolding coded code-of every
+coded-back : (v : Fixed) → coded (fixed-code v) every ≡ v
+unfolding coded fixed-code every
 coded-back open-round = refl
 coded-back close-round = refl
 coded-back open-square = refl
@@ -50,5 +50,5 @@ coded-back USING = refl
 coded-back WHILE = refl
 coded-back end = refl
 
-pub code-of-injective : (v w : Fixed) → code-of v ≡ code-of w → v ≡ w
-code-of-injective v w e = sym (coded-back v) ∙ ap (λ n. coded n every) e ∙ coded-back w
+pub fixed-code-injective : (v w : Fixed) → fixed-code v ≡ fixed-code w → v ≡ w
+fixed-code-injective v w e = sym (coded-back v) ∙ ap (λ n. coded n every) e ∙ coded-back w
