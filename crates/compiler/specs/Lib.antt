@@ -1,1 +1,7 @@
 pub mod Compiled
+pub mod Answers
+pub mod Lexing
+pub mod Scopes
+pub mod Tables
+pub mod Steps
+pub mod Walks

@@ -1,0 +1,213 @@
+// Commands: one walk reads and translates. Only bodies and blocks recurse; the commands of a block are a loop.
+ghost use Prim.Native.Nat.{_<_};
+ghost use Rattle.compiler.specs.Walks.{Ready, Reads-command, Reads-print, Reads-string, Reads-declare, Reads-read, Reads-assign, Reads-nested, Reads-when, Reads-while, Reads-block};
+use crate::expression;
+use crate::scope;
+use crate::seen;
+use crate::walk;
+use crate::walk::Read;
+use crate::walk::Walk;
+use lexeme::Kind;
+use limits::Limits;
+
+// ---- after the first lexeme of a command without a body
+
+// After PRINTI.
+fn print_int(text: &[u8], names: &[usize], table: &mut [i32], w: Walk, allow: usize) -> Read
+    requires { do ⌜ Ready (record { word = (← ⟦Limits::WORD⟧); string = (← ⟦Limits::STRING⟧); literal = (← ⟦Limits::LITERAL⟧) }) (now text) (now names) w allow ⌝ }
+    ensures { λ r. ⌜ Reads-print (now (text .entry)) (now (names .entry)) (now (table .entry)) w allow r (now (names .entry)) (now (table .exit)) ⌝ }
+{
+    let r = expression::expression(text, names, table, w, allow);
+    let Read::Done(x) = r else {
+        return r;
+    };
+    Read::Done(walk::emitted(table, x, 17, 0, x.need))
+}
+
+// After PRINTLNS, which prints a line, or PRINTS.
+fn print_string(
+    text: &[u8],
+    names: &[usize],
+    table: &mut [i32],
+    w: Walk,
+    line: bool,
+    allow: usize,
+) -> Read
+    requires { do ⌜ Ready (record { word = (← ⟦Limits::WORD⟧); string = (← ⟦Limits::STRING⟧); literal = (← ⟦Limits::LITERAL⟧) }) (now text) (now names) w allow ⌝ }
+    ensures { λ r. ⌜ Reads-string line (now (text .entry)) (now (names .entry)) (now (table .entry)) w allow r (now (names .entry)) (now (table .exit)) ⌝ }
+{
+    let l = seen::look(text, w.at);
+    let kind = l.kind;
+    let Kind::Str = kind else {
+        return Read::Refused(4, l.place);
+    };
+    let x = walk::moved(w, l.end);
+    let s = (l.place + 1) as i32;
+    if line {
+        return Read::Done(walk::emitted(table, x, 19, s, 0));
+    }
+    Read::Done(walk::emitted(table, x, 18, s, 0))
+}
+
+// After INT.
+fn declare(text: &[u8], names: &mut [usize], table: &mut [i32], w: Walk, allow: usize) -> Read
+    requires { do ⌜ Ready (record { word = (← ⟦Limits::WORD⟧); string = (← ⟦Limits::STRING⟧); literal = (← ⟦Limits::LITERAL⟧) }) (now text) (now names) w allow ⌝ }
+    ensures { λ r. ⌜ Reads-declare (now (text .entry)) (now (names .entry)) (now (table .entry)) w allow r (now (names .exit)) (now (table .exit)) ⌝ }
+{
+    let l = seen::look(text, w.at);
+    let kind = l.kind;
+    let Kind::Name = kind else {
+        return Read::Refused(4, l.place);
+    };
+    let x = walk::emitted(table, walk::moved(w, l.end), 2, 0, 1);
+    let y = walk::emitted(table, x, 4, x.declared as i32, 1);
+    Read::Done(scope::declared(names, y, l.place))
+}
+
+// After READ.
+fn read(text: &[u8], names: &[usize], table: &mut [i32], w: Walk, allow: usize) -> Read
+    requires { do ⌜ Ready (record { word = (← ⟦Limits::WORD⟧); string = (← ⟦Limits::STRING⟧); literal = (← ⟦Limits::LITERAL⟧) }) (now text) (now names) w allow ⌝ }
+    ensures { λ r. ⌜ Reads-read (now (text .entry)) (now (names .entry)) (now (table .entry)) w allow r (now (names .entry)) (now (table .exit)) ⌝ }
+{
+    let l = seen::look(text, w.at);
+    let kind = l.kind;
+    let Kind::Name = kind else {
+        return Read::Refused(4, l.place);
+    };
+    let x = walk::emitted(table, walk::moved(w, l.end), 16, 0, 1);
+    Read::Done(scope::used(text, names, table, x, l.place, 4, 1))
+}
+
+// After the name at a place. The name is looked up first, since it stands left of the Expression's names.
+fn assign(
+    text: &[u8],
+    names: &[usize],
+    table: &mut [i32],
+    w: Walk,
+    place: usize,
+    allow: usize,
+) -> Read
+    requires { do ⌜ Ready (record { word = (← ⟦Limits::WORD⟧); string = (← ⟦Limits::STRING⟧); literal = (← ⟦Limits::LITERAL⟧) }) (now text) (now names) w allow ⌝ }
+    ensures { λ r. ⌜ Reads-assign place (now (text .entry)) (now (names .entry)) (now (table .entry)) w allow r (now (names .entry)) (now (table .exit)) ⌝ }
+{
+    let r = seen::expect(text, w, b':');
+    let Read::Done(x) = r else {
+        return r;
+    };
+    let c = scope::look_up(text, names, x.declared, place);
+    let s = expression::expression(text, names, table, scope::noted(x, c, place), allow);
+    let Read::Done(y) = s else {
+        return s;
+    };
+    let k = scope::cell_of(c);
+    Read::Done(walk::emitted(table, y, 4, k as i32, y.need))
+}
+
+// ---- commands
+
+pub fn command(text: &[u8], names: &mut [usize], table: &mut [i32], w: Walk, allow: usize) -> Read
+    requires { do ⌜ Ready (record { word = (← ⟦Limits::WORD⟧); string = (← ⟦Limits::STRING⟧); literal = (← ⟦Limits::LITERAL⟧) }) (now text) (now names) w allow ⌝ }
+    ensures { λ r. ⌜ Reads-command (now (text .entry)) (now (names .entry)) (now (table .entry)) w allow r (now (names .exit)) (now (table .exit)) ⌝ }
+{
+    let l = seen::look(text, w.at);
+    let kind = l.kind;
+    let x = walk::moved(w, l.end);
+    if let Kind::Name = kind {
+        return assign(text, names, table, x, l.place, allow);
+    }
+    let f = seen::fixed_of(kind);
+    match f {
+        4 => Read::Done(walk::emitted(table, x, 1, 1, 0)),
+        8 => declare(text, names, table, x, allow),
+        12 => print_int(text, names, table, x, allow),
+        13 => print_string(text, names, table, x, true, allow),
+        14 => print_string(text, names, table, x, false, allow),
+        16 => read(text, names, table, x, allow),
+        6 | 21 | 123 => {
+            if allow == 0 {
+                return Read::Refused(5, l.place);
+            }
+            nested(text, names, table, x, f, allow - 1)
+        }
+        _ => Read::Refused(4, l.place),
+    }
+}
+
+// After IF, WHILE or `{`, with so many nestings allowed inside.
+fn nested(text: &[u8], names: &mut [usize], table: &mut [i32], w: Walk, f: u8, allow: usize) -> Read
+    requires { do ⌜ Ready (record { word = (← ⟦Limits::WORD⟧); string = (← ⟦Limits::STRING⟧); literal = (← ⟦Limits::LITERAL⟧) }) (now text) (now names) w allow ⌝ }
+    ensures { λ r. ⌜ Reads-nested f (now (text .entry)) (now (names .entry)) (now (table .entry)) w allow r (now (names .exit)) (now (table .exit)) ⌝ }
+{
+    match f {
+        6 => if_command(text, names, table, w, allow),
+        21 => while_command(text, names, table, w, allow),
+        _ => block(text, names, table, w, allow),
+    }
+}
+
+// After IF, with so many nestings allowed inside.
+fn if_command(text: &[u8], names: &mut [usize], table: &mut [i32], w: Walk, allow: usize) -> Read
+    requires { do ⌜ Ready (record { word = (← ⟦Limits::WORD⟧); string = (← ⟦Limits::STRING⟧); literal = (← ⟦Limits::LITERAL⟧) }) (now text) (now names) w allow ⌝ }
+    ensures { λ r. ⌜ Reads-when (now (text .entry)) (now (names .entry)) (now (table .entry)) w allow r (now (names .exit)) (now (table .exit)) ⌝ }
+{
+    let r = expression::condition(text, names, table, w, allow);
+    let Read::Done(c) = r else {
+        return r;
+    };
+    let s = seen::expect(text, c, 19);
+    let Read::Done(x) = s else {
+        return s;
+    };
+    let t = command(text, names, table, walk::skipped(x, 0), allow);
+    let Read::Done(y) = t else {
+        return t;
+    };
+    walk::put(table, x.code, 6, y.code as i32);
+    Read::Done(walk::with_need(y, walk::larger(x.need, y.need)))
+}
+
+// After WHILE, with so many nestings allowed inside.
+fn while_command(text: &[u8], names: &mut [usize], table: &mut [i32], w: Walk, allow: usize) -> Read
+    requires { do ⌜ Ready (record { word = (← ⟦Limits::WORD⟧); string = (← ⟦Limits::STRING⟧); literal = (← ⟦Limits::LITERAL⟧) }) (now text) (now names) w allow ⌝ }
+    ensures { λ r. ⌜ Reads-while (now (text .entry)) (now (names .entry)) (now (table .entry)) w allow r (now (names .exit)) (now (table .exit)) ⌝ }
+{
+    let r = expression::condition(text, names, table, w, allow);
+    let Read::Done(c) = r else {
+        return r;
+    };
+    let s = seen::expect(text, c, 3);
+    let Read::Done(x) = s else {
+        return s;
+    };
+    let t = command(text, names, table, walk::skipped(x, 0), allow);
+    let Read::Done(y) = t else {
+        return t;
+    };
+    walk::put(table, x.code, 6, (y.code + 1) as i32);
+    Read::Done(walk::emitted(table, y, 5, w.code as i32, walk::larger(x.need, y.need)))
+}
+
+// After `{`, with so many nestings allowed inside.
+fn block(text: &[u8], names: &mut [usize], table: &mut [i32], w: Walk, allow: usize) -> Read
+    requires { do ⌜ Ready (record { word = (← ⟦Limits::WORD⟧); string = (← ⟦Limits::STRING⟧); literal = (← ⟦Limits::LITERAL⟧) }) (now text) (now names) w allow ⌝ }
+    ensures { λ r. ⌜ Reads-block (now (text .entry)) (now (names .entry)) (now (table .entry)) w allow r (now (names .exit)) (now (table .exit)) ⌝ }
+{
+    let first = command(text, names, table, w, allow);
+    let Read::Done(x) = first else {
+        return first;
+    };
+    let mut done = x;
+    loop {
+        let l = seen::look(text, done.at);
+        let kind = l.kind;
+        if seen::fixed_of(kind) == b'}' {
+            scope::close(names, w.declared, done.declared);
+            return Read::Done(walk::moved(done, l.end));
+        }
+        let r = command(text, names, table, done, allow);
+        let Read::Done(y) = r else {
+            return r;
+        };
+        done = walk::with_need(y, walk::larger(done.need, y.need));
+    }
+}
