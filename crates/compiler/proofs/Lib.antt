@@ -1,0 +1,6 @@
+pub mod Filled
+pub mod Found
+pub mod Lexed
+pub mod Others
+pub mod Sizes
+pub mod Stores

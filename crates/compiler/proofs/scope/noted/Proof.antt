@@ -1,0 +1,25 @@
+-- `compiler::scope::noted` meets its contract. Assumes nothing.
+use borrow.Author.Needs.{needs}
+use Rattle.compiler.specs.Steps.{noted-walk}
+use Rattle.compiler.proofs.scope.noted.Statement.{statement}
+use Rattle.compiler.proofs.scope.noted.Tie as tie
+
+enum-told : tie.Need-enum-told
+enum-told c = search needs
+
+enum-told-2 : tie.Need-enum-told-2
+enum-told-2 c = search needs
+
+faulted-requires : tie.Need-faulted-requires
+faulted-requires c κs = search needs
+
+returns : tie.Need-returns
+unfolding noted-walk
+returns c = rw (c .enum-told .given .1)
+
+returns-2 : tie.Need-returns-2
+unfolding noted-walk
+returns-2 c = rw (c .before .enum-told2 .given .1) (c .faulted .ensures)
+
+pub noted-spec : {M : Type 1} → statement M
+noted-spec = tie.close (tie.spec enum-told enum-told-2 faulted-requires returns returns-2)

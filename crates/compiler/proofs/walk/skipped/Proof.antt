@@ -1,0 +1,16 @@
+-- `compiler::walk::skipped` meets its contract. Assumes nothing.
+use mathlib.Core.Path.{refl}
+use borrow.Author.Needs.{needs}
+use Rattle.compiler.specs.Steps.{one-more}
+use Rattle.compiler.proofs.walk.skipped.Statement.{statement}
+use Rattle.compiler.proofs.walk.skipped.Tie as tie
+
+add-t3 : tie.Need-add-t3
+add-t3 c = search needs
+
+returns : tie.Need-returns
+unfolding one-more
+returns c = refl
+
+pub skipped-spec : {M : Type 1} → statement M
+skipped-spec = tie.close (tie.spec add-t3 returns)
