@@ -1,4 +1,5 @@
 pub mod Filled
+pub mod Firsts
 pub mod Found
 pub mod Lexed
 pub mod Others

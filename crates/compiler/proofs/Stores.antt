@@ -15,7 +15,7 @@ use Rattle.machine.specs.Instructions.{Instruction, pair}
 use Rattle.compiler.specs.Tables.{put, emit}
 
 -- a loop that stores v up to a place: what is left to store, before and after one store
-pub rest-of : {A : Type 0} (v : A) (n i : ℕ) → i < n → replicate (n - i) v ≡ v ∷ replicate (n - (i + 1)) v
+rest-of : {A : Type 0} (v : A) (n i : ℕ) → i < n → replicate (n - i) v ≡ v ∷ replicate (n - (i + 1)) v
 rest-of v n i h = let e : n - i ≡ suc (n - (i + 1)) = omega arith in rw e
 
 pub store-on : {A : Type 0} (v : A) (l : List A) (n i : ℕ) → i < n → sets (set l i v) (i + 1) (replicate (n - (i + 1)) v) ≡ sets l i (replicate (n - i) v)
