@@ -56,7 +56,7 @@ module _ (k : ℕ) (f : ℕ → ℤ) where
       by : (b : Bool) → eqb k (length (cells d f)) ≡ b → (k < d → poke k v (cells d f) ≡ cells d (changed k v f)) → cond b (v ∷ cells d f) (f d ∷ poke k v (cells d f)) ≡ cells (suc d) (changed k v f)
       by true e ih =
           rw (eq-eqb d k (omega (arith, eqb-true k (length (cells d f)) e, length-cells d f)))
-            (ap {B = List ℤ} (λ r. v ∷ r) (cells-same d f (changed k v f) (λ j l. rw (ne-eqb j k (λ q. omega (arith, eqb-true k (length (cells d f)) e, length-cells d f))))))
+          (ap {B = List ℤ} (λ r. v ∷ r) (cells-same d f (changed k v f) (λ j l. rw (ne-eqb j k (λ q. omega (arith, eqb-true k (length (cells d f)) e, length-cells d f))))))
       by false e ih =
           rw (ne-eqb d k (λ q. omega (arith, eqb-false k (length (cells d f)) e, length-cells d f))) (ap {B = List ℤ} (λ r. f d ∷ r) (ih (omega (arith, eqb-false k (length (cells d f)) e, length-cells d f))))
 

@@ -4,6 +4,7 @@ use mathlib.Core.List.{List, [], _∷_, _++_}
 use mathlib.Core.Option.{Option, some}
 use Prim.Native.Nat.{ℕ, zero, suc, _+_}
 use native.Mathlib.Nat.{add-zero, add-suc, suc-add}
+use native.Mathlib.Numerals.{add-one}
 use native.Mathlib.Omega.{arith}
 use lib.Dec.{lit<}
 use lib.ListN.{length, getElem?, replicate, length-append}
@@ -65,6 +66,9 @@ module _ (lent : Lent) where
   unfoldable pub Holds : ℕ → List Instruction → Type 0
   Holds a [] = Unit {0}
   Holds a (i ∷ is) = (fetched lent a ≡ some i) × Holds (suc a) is
+
+  pub holds-next : (a : ℕ) (xs : List Instruction) → Holds (suc a) xs → Holds (a + 1) xs
+  holds-next a xs h = rw add-one h
 
   pub holds-split : (a : ℕ) (xs ys : List Instruction) → Holds a (xs ++ ys) → Holds a xs × Holds (a + length xs) ys
   unfolding Holds
