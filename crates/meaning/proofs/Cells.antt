@@ -15,7 +15,7 @@ unfoldable pub cells : ℕ → (ℕ → ℤ) → List ℤ
 cells zero f = []
 cells (suc d) f = f d ∷ cells d f
 
-length-cells : (d : ℕ) (f : ℕ → ℤ) → length (cells d f) ≡ d
+pub length-cells : (d : ℕ) (f : ℕ → ℤ) → length (cells d f) ≡ d
 unfolding cells
 length-cells zero f = refl
 length-cells (suc d) f = ap suc (length-cells d f)

@@ -35,7 +35,7 @@ module _ (lent : Lent) (d : ℕ) where
   means x = mean (lent .readings) (lent .room) x
 
   -- the code of a sentence, wherever it stands, and whatever values are on the stack, if there is room for its need
-  pub Runs : {k : Kind} → Sen ℕ k → Type 0
+  unfoldable pub Runs : {k : Kind} → Sen ℕ k → Type 0
   Runs {k} x = (N a : ℕ) (ts : List ℤ) → Holds lent a (code a x) → a + size x < pairs lent → Fits (lent .text) d x → length ts + d + need x ≤ lent .cells →
       Leads lent d N a ts (means x) (a + size x) (λ v. pile k v ts)
 

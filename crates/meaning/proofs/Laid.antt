@@ -1,5 +1,5 @@
 -- The code of a sentence, and where it stands in a table.
-use mathlib.Core.Path.{_≡_, refl, subst, sym}
+use mathlib.Core.Path.{_≡_, refl, ap}
 use mathlib.Core.List.{List, [], _∷_, _++_}
 use mathlib.Core.Option.{Option, some}
 use Prim.Native.Nat.{ℕ, zero, suc, _+_}
@@ -9,11 +9,11 @@ use native.Mathlib.Omega.{arith}
 use lib.Dec.{lit<}
 use lib.ListN.{length, getElem?, replicate, length-append}
 use Rattle.lexeme.specs.Lexemes as L
-use Rattle.sentence.specs.Sentences.{Kind, Sen, literal, variable, bracket, first, multiply, unsigned, signed, add, negated, compare, print, print-line, print-string, declare, input, assign, error, while, when, block, single, then}
+use Rattle.sentence.specs.Sentences.{Kind, Sen, command, literal, variable, bracket, first, multiply, unsigned, signed, add, negated, compare, print, print-line, print-string, declare, input, assign, error, while, when, block, single, then}
 use Rattle.machine.specs.Instructions.{Instruction}
 use Rattle.machine.specs.Machine.{Lent, fetched}
 use Rattle.machine.proofs.Pairs.{Sound, All-sound}
-use Rattle.meaning.specs.Layout.{size, code}
+use Rattle.meaning.specs.Layout.{size, code, program-code}
 
 -- ---- how long it is, and that each of its instructions has a pair
 
@@ -58,6 +58,15 @@ laid a (when c m) = laid-append (laid a c) (laid-append (laid-one _ tt) (laid _ 
 laid a (block ms) = laid a ms
 laid a (single m) = laid a m
 laid a (then ms m) = laid-append (laid a ms) (laid _ m) refl
+
+laid-replicate : (n : ℕ) (i : Instruction) → Sound i → Laid (replicate n i) n
+unfolding All-sound
+laid-replicate zero i s = record { long = refl; sound = tt }
+laid-replicate (suc n) i s = let r = laid-replicate n i s in record { long = ap suc (r .long); sound = (s, r .sound) }
+
+pub laid-program : (d : ℕ) (m : Sen ℕ command) → Laid (program-code d m) (d + (size m + 1))
+unfolding program-code Sound
+laid-program d m = laid-append (laid-replicate d _ tt) (laid-append (laid d m) (laid-one _ (lit< tt)) refl) refl
 
 -- ---- where it stands
 

@@ -26,7 +26,7 @@ unfoldable pub finish : {A : Type 0} → Outcome A → (A → ℕ → Store → 
 finish (done a n s) k = k a n s
 finish (ended e) k = e
 
-finish-after : {A B : Type 0} (o : Outcome A) (f : A → Act B) (k : B → ℕ → Store → End) → finish (after o f) k ≡ finish o (λ a n s. finish (f a n s) k)
+pub finish-after : {A B : Type 0} (o : Outcome A) (f : A → Act B) (k : B → ℕ → Store → End) → finish (after o f) k ≡ finish o (λ a n s. finish (f a n s) k)
 unfolding finish after
 finish-after (done a n s) f k = refl
 finish-after (ended e) f k = refl
@@ -44,6 +44,12 @@ module _ (lent : Lent) where
       by : (x : Step) → _≡_ {A = End} (elim x [ go at′ s′ o′ ↦ run lent n at′ s′ o′ | stop q ↦ record { ending = q; left = n; outside = o } ]) (continue x n o)
       by (go b t p) = unfold continue in refl
       by (stop q) = unfold continue in refl
+
+  pub unit-step : {A : Type 0} (i : Instruction) (a n : ℕ) (st : List ℤ) (s : Store) (f : Act A) (K : A → ℕ → Store → End) → fetched lent a ≡ some i →
+      ((m : ℕ) → m < n → continue (does lent i a st (s .outside)) m (s .outside) ≡ finish (f m s) K) → run lent n a st (s .outside) ≡ finish ((unit >> f) n s) K
+  unfolding _>>_ unit after end-with finish
+  unit-step i a zero st s f K e h = unfold run in refl
+  unit-step i a (suc n) st s f K e h = run-suc i n a st (s .outside) e ∙ h n (le-refl (suc n))
 
   module _ (d : ℕ) where
     -- the run from a place on, with some values above the variables
@@ -81,12 +87,7 @@ module _ {lent : Lent} {d : ℕ} where
   fuelled p = record { leads = λ n s K l k. p (suc n) .leads n s K (le-refl (suc n)) k }
 
   pub first-step : {A : Type 0} {N : ℕ} {i : Instruction} {a : ℕ} {ts : List ℤ} {f : Act A} {b : ℕ} {out : A → List ℤ} → fetched lent a ≡ some i → Does lent d N i a ts f b out → Leads lent d (suc N) a ts (unit >> f) b out
-  unfolding _>>_ unit after end-with finish
-  first-step {A} {N} {i} {a} {ts} {f} {b} {out} e p = record { leads = by }
-    where
-      by : (n : ℕ) (s : Store) (K : A → ℕ → Store → End) → n < suc N → ((v : A) (l : ℕ) (t : Store) → l ≤ n → from lent d l b (out v) t ≡ K v l t) → from lent d n a ts s ≡ finish ((unit >> f) n s) K
-      by zero s K l k = unfold run in refl
-      by (suc n) s K l k = run-suc lent i n a (ts ++ cells d (s .variables)) (s .outside) e ∙ p .goes n s K (omega arith) (λ v j t h. k v j t (omega arith))
+  first-step {i} {a} {f} e p = record { leads = λ n s K l k. unit-step lent i a n _ s f K e (λ m h. p .goes m s K (omega arith) (λ v j t q. k v j t (omega arith))) }
 
   pub step-on : {A : Type 0} {N : ℕ} {i : Instruction} {a : ℕ} {ts : List ℤ} {f : Act A} {b : ℕ} {out : A → List ℤ} → fetched lent a ≡ some i → Does lent d N i a ts f b out → Leads lent d N a ts (unit >> f) b out
   step-on e p = record { leads = λ n s K l k. first-step e p .leads n s K (omega arith) k }

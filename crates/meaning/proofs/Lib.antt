@@ -2,3 +2,4 @@ pub mod Cells
 pub mod Laid
 pub mod Leads
 pub mod Correct
+pub mod Whole
