@@ -3,3 +3,5 @@ pub mod Laid
 pub mod Leads
 pub mod Correct
 pub mod Whole
+pub mod Later
+pub mod Budget
