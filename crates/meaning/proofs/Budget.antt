@@ -11,7 +11,7 @@ use Rattle.machine.specs.Endings.{budget-spent, stack-full, bad-code}
 use Rattle.machine.specs.Machine.{End}
 use Rattle.meaning.specs.Meaning.{ended, meaning}
 use Rattle.meaning.specs.Cost.{Costs, Costs-more-than}
-use Rattle.meaning.proofs.Later.{Own, Later, both, end, late-done, late-end, never, later}
+use Rattle.meaning.proofs.Later.{Later, end, late-end, never, later}
 
 -- an end with n units, and that with k units more
 record Kept (n k : ℕ) (e f : End) : Type 0 where
@@ -45,6 +45,10 @@ module _ (readings : List ℤ) (room d : ℕ) (m : Sen ℕ command) where
   pub all-spent : (b : ℕ) → meaning readings room d m b .ending ≡ budget-spent → meaning readings room d m b .left ≡ 0
   all-spent b = keeps b 0 .all
 
+  -- what is used of a budget that is enough is the cost
+  pub costs-used : (b : ℕ) → meaning readings room d m b .ending ≢ budget-spent → Costs readings room d m (b - meaning readings room d m b .left)
+  costs-used b e = record { budget = b; by-itself = e; used = omega (arith, keeps b 0 .within) }
+
   -- the budget is spent exactly when the sentences cost more
   pub budget : (b : ℕ) → (meaning readings room d m b .ending ≡ budget-spent) ↔ Costs-more-than readings room d m b
   budget b = (λ e n c. costs e c (decLe (c .budget) b), λ h. spent h (ℕ-discrete (ends b .ending) budget-spent))
@@ -59,7 +63,7 @@ module _ (readings : List ℤ) (room d : ℕ) (m : Sen ℕ command) where
 
       spent : Costs-more-than readings room d m b → Dec (ends b .ending ≡ budget-spent) → ends b .ending ≡ budget-spent
       spent h (yes e) = e
-      spent h (no e) = omega (arith, h (b - ends b .left) (record { budget = b; by-itself = e; used = omega (arith, keeps b 0 .within) }), keeps b 0 .within)
+      spent h (no e) = omega (arith, h (b - ends b .left) (costs-used b e))
 
   -- there is one cost at most
   pub one-cost : {n p : ℕ} → Costs readings room d m n → Costs readings room d m p → n ≡ p
@@ -77,3 +81,7 @@ module _ (readings : List ℤ) (room d : ℕ) (m : Sen ℕ command) where
   -- sentences that cost n units spend every budget below n, and no other
   pub cost-decides : {n : ℕ} → Costs readings room d m n → (b : ℕ) → (meaning readings room d m b .ending ≡ budget-spent) ↔ (b < n)
   cost-decides {n} c b = (λ e. budget b .0 e n c, λ h. budget b .1 (λ p e. omega (arith, one-cost c e)))
+
+  -- and with any other budget they use n
+  pub uses : {n : ℕ} → Costs readings room d m n → (b : ℕ) → n ≤ b → b ≡ n + meaning readings room d m b .left
+  uses c b h = omega (arith, one-cost c (costs-used b (λ e. omega (arith, cost-decides c b .0 e))), keeps b 0 .within)

@@ -1,8 +1,9 @@
 -- The run of a sentence's code is its meaning: the same units, the same ending.
 use mathlib.Core.Path.{_≡_, refl, sym}
 use mathlib.Core.List.{List, [], _∷_, _++_}
-use Prim.Native.Nat.{ℕ, zero, suc, _+_, _≤_, _<_, max}
-use native.Mathlib.Nat.{le-refl, not-suc-le-zero}
+use mathlib.Core.Option.{some}
+use Prim.Native.Nat.{ℕ, zero, suc, _+_, _≤_, _<_}
+use native.Mathlib.Nat.{not-suc-le-zero}
 use native.Mathlib.Numerals.{add-one}
 use native.Mathlib.Omega.{arith}
 use lib.IntN.{ℤ, pos, negℤ}
@@ -10,14 +11,13 @@ use lib.ListN.{length}
 use Rattle.lexeme.specs.Lexemes as L
 use Rattle.sentence.specs.Sentences.{Kind, Sen, factor, term, expression, condition, command, commands, literal, variable, bracket, first, multiply, unsigned, signed, add, negated, compare, print, print-line, print-string, declare, input, assign, error, while, when, block, single, then}
 use Rattle.sentence.specs.Parts.{Each}
-use mathlib.Core.Option.{some}
 use Rattle.machine.specs.Endings.{stopped-by-ERROR}
-use Rattle.machine.specs.Numbers.{Two-sided, is-false, calculate, in-range}
-use Rattle.machine.specs.Instructions.{Instruction, jump, jump-if-false, two-sided, negate}
+use Rattle.machine.specs.Numbers.{Two-sided, calculate, in-range}
+use Rattle.machine.specs.Instructions.{two-sided, jump, jump-if-false}
 use Rattle.machine.specs.Machine.{Lent, pairs, does, fetched}
 use Rattle.meaning.specs.Layout.{of-mul, of-sign, of-rel, size, code, need}
 use Rattle.meaning.specs.Fits.{Fits}
-use Rattle.meaning.specs.Meaning.{Act, _>>=_, _>>_, give, unit, result, Value, signed-value, rounds, mean}
+use Rattle.meaning.specs.Meaning.{Act, _>>=_, _>>_, unit, result, Value, signed-value, rounds, mean}
 use Rattle.meaning.proofs.Laid.{Holds, holds-next, holds-code}
 use Rattle.meaning.proofs.Leads.{Leads, here, bind, seq, moved, first-step, step-on, fuelled, pushes, loads, stores, results, negates, halts, prints, prints-string, prints-line, reads, jumps, chooses}
 
@@ -39,6 +39,11 @@ module _ (lent : Lent) (d : ℕ) where
   Runs {k} x = (N a : ℕ) (ts : List ℤ) → Holds lent a (code a x) → a + size x < pairs lent → Fits (lent .text) d x → length ts + d + need x ≤ lent .cells →
       Leads lent d N a ts (means x) (a + size x) (λ v. pile k v ts)
 
+  -- two sides, then the operator or relation
+  two : {N a b c : ℕ} {ts : List ℤ} {x y : Act ℤ} (o : Two-sided) → fetched lent c ≡ some (two-sided o) → Leads lent d N a ts x b (λ v. v ∷ ts) → ((v : ℤ) → Leads lent d N b (v ∷ ts) y c (λ w. w ∷ v ∷ ts)) →
+      Leads lent d N a ts (x >>= λ v. y >>= λ w. unit >> result (calculate o v w)) (suc c) (λ v. v ∷ ts)
+  two {ts} o h p q = bind p (λ v. bind (q v) (λ w. step-on h (results ts (calculate o v w) (λ g u. unfold does in refl))))
+
   -- the rounds of a WHILE, with more fuel than units left: by the fuel
   loops : (c : Act ℤ) (m : Act (Unit {0})) (a i j : ℕ) (ts : List ℤ) →
       fetched lent (a + i) ≡ some (jump-if-false (a + i + 1 + j + 1)) → fetched lent (a + i + 1 + j) ≡ some (jump a) → a + i + 1 + j + 1 < pairs lent →
@@ -59,8 +64,7 @@ module _ (lent : Lent) (d : ℕ) where
   runs (multiply x o y) = λ N a ts h i f r.
       let p = holds-code lent a x _ h in
       let q = holds-code lent (a + size x) y _ (p .1) in
-      bind (runs x N a ts (p .0) (omega arith) (f .0) (omega arith)) (λ v. bind (runs y N (a + size x) (v ∷ ts) (q .0) (omega arith) (f .1) (omega arith))
-      (λ w. moved (omega arith) (step-on (q .1 .0) (results ts (calculate (of-mul o) v w) (λ g u. unfold does in refl)))))
+      moved (omega arith) (two (of-mul o) (q .1 .0) (runs x N a ts (p .0) (omega arith) (f .0) (omega arith)) (λ v. runs y N (a + size x) (v ∷ ts) (q .0) (omega arith) (f .1) (omega arith)))
   runs (unsigned t) = runs t
   runs (signed L.plus t) = λ N a ts h i f r.
       let p = holds-code lent a t _ h in
@@ -71,16 +75,14 @@ module _ (lent : Lent) (d : ℕ) where
   runs (add x o y) = λ N a ts h i f r.
       let p = holds-code lent a x _ h in
       let q = holds-code lent (a + size x) y _ (p .1) in
-      bind (runs x N a ts (p .0) (omega arith) (f .0) (omega arith)) (λ v. bind (runs y N (a + size x) (v ∷ ts) (q .0) (omega arith) (f .1) (omega arith))
-      (λ w. moved (omega arith) (step-on (q .1 .0) (results ts (calculate (of-sign o) v w) (λ g u. unfold does in refl)))))
+      moved (omega arith) (two (of-sign o) (q .1 .0) (runs x N a ts (p .0) (omega arith) (f .0) (omega arith)) (λ v. runs y N (a + size x) (v ∷ ts) (q .0) (omega arith) (f .1) (omega arith)))
   runs (negated x) = λ N a ts h i f r.
       let p = holds-code lent a x _ h in
       bind (runs x N a ts (p .0) (omega arith) f r) (λ v. moved (omega arith) (step-on (p .1 .0) (negates v)))
   runs (compare x o y) = λ N a ts h i f r.
       let p = holds-code lent a x _ h in
       let q = holds-code lent (a + size x) y _ (p .1) in
-      bind (runs x N a ts (p .0) (omega arith) (f .0) (omega arith)) (λ v. bind (runs y N (a + size x) (v ∷ ts) (q .0) (omega arith) (f .1) (omega arith))
-      (λ w. moved (omega arith) (step-on (q .1 .0) (results ts (calculate (of-rel o) v w) (λ g u. unfold does in refl)))))
+      moved (omega arith) (two (of-rel o) (q .1 .0) (runs x N a ts (p .0) (omega arith) (f .0) (omega arith)) (λ v. runs y N (a + size x) (v ∷ ts) (q .0) (omega arith) (f .1) (omega arith)))
   runs (print e) = λ N a ts h i f r.
       let p = holds-code lent a e _ h in
       bind (runs e N a ts (p .0) (omega arith) f r) (λ v. moved (omega arith) (step-on (p .1 .0) (prints v)))

@@ -1,5 +1,5 @@
 -- What a larger budget changes: nothing, once the smaller one was enough.
-use mathlib.Core.Path.{_≡_, refl, sym, ap, _∙_}
+use mathlib.Core.Path.{_≡_, refl}
 use mathlib.Core.Logic.{_≢_}
 use mathlib.Core.List.{List}
 use mathlib.Core.Bool.{Bool, true, false, cond}
@@ -8,7 +8,7 @@ use Prim.Native.Nat.{ℕ, zero, suc, _+_, _≤_, _<_}
 use native.Mathlib.Nat.{le-refl, le-suc, le-trans, lt-of-le-of-lt, add-zero, zero-add, suc-add}
 use native.Mathlib.Omega.{arith}
 use lib.Dec.{ltb}
-use lib.IntN.{ℤ, pos, negℤ}
+use lib.IntN.{ℤ, pos}
 use lib.Signed.{mag, quotZ}
 use Rattle.lexeme.specs.Lexemes as L
 use Rattle.sentence.specs.Sentences.{Kind, Sen, command, literal, variable, bracket, first, multiply, unsigned, signed, add, negated, compare, print, print-line, print-string, declare, input, assign, error, while, when, block, single, then}
@@ -16,7 +16,7 @@ use Rattle.machine.specs.Endings.{normal, budget-spent, stack-full, bad-code, n
 use Rattle.machine.specs.Numbers.{Two-sided, plus, minus, times, divide, equals, smaller, greater, Result, value, ends, in-range, is-false, calculate, negation, decimal}
 use Rattle.machine.specs.Machine.{Outside, reading, one-used, printed}
 use Rattle.meaning.specs.Layout.{of-mul, of-sign, of-rel}
-use Rattle.meaning.specs.Meaning.{Store, Outcome, done, ended, Act, after, _>>=_, _>>_, give, end-with, unit, result, value-of, set, Value, signed-value, rounds, take, write, mean, declarations, program, meaning, start}
+use Rattle.meaning.specs.Meaning.{Store, Outcome, done, ended, Act, after, _>>=_, _>>_, give, end-with, unit, result, value-of, set, signed-value, rounds, take, write, mean, declarations, program, meaning, start}
 
 -- an ending that sentences have by themselves
 pub record Own (e : ℕ) : Type 0 where

@@ -1,24 +1,19 @@
 -- What acts run instructions to: a step for each instruction, and how acts follow on each other.
-use mathlib.Core.Path.{_≡_, refl, sym, ap, _∙_}
+use mathlib.Core.Path.{_≡_, refl, ap, _∙_}
 use mathlib.Core.List.{List, [], _∷_, _++_, append-nil}
 use mathlib.Core.Bool.{Bool, true, false, cond}
 use mathlib.Core.Option.{Option, none, some}
-use Prim.Native.Nat.{ℕ, zero, suc, _+_, _≤_, _<_, max}
-use native.Mathlib.Nat.{le-refl, add-zero}
-use native.Mathlib.Numerals.{add-one}
+use Prim.Native.Nat.{ℕ, zero, suc, _+_, _≤_, _<_}
+use native.Mathlib.Nat.{le-refl}
 use native.Mathlib.Omega.{arith}
-use lib.Dec.{ltb, eqb}
-use lib.IntN.{ℤ, pos, negℤ}
+use lib.IntN.{ℤ}
 use lib.ListN.{length}
 use borrow.Author.Tests.{lt-ltb}
-use Rattle.lexeme.specs.Lexemes as L
-use Rattle.sentence.specs.Sentences.{Kind, Sen, factor, term, expression, condition, command, commands, literal, variable, bracket, first, multiply, unsigned, signed, add, negated, compare, print, print-line, print-string, declare, input, assign, error, while, when, block, single, then}
-use Rattle.machine.specs.Endings.{stopped-by-ERROR, no-reading-left, print-does-not-fit}
-use Rattle.machine.specs.Numbers.{Two-sided, Result, value, ends, in-range, is-false, calculate, negation, decimal}
-use Rattle.machine.specs.Instructions.{Instruction, halt, push-int, load-stack, store-stack, jump, jump-if-false, two-sided, negate, not, read, print-int, print-str, print-str-ln}
-use Rattle.machine.specs.Machine.{Lent, Outside, string-from, reading, one-used, printed, peek, poke, Step, go, stop, pushed, resulting, pairs, jumped, taken, written, quoted, does, decoded, fetched, step, End, run}
-use Rattle.meaning.specs.Layout.{of-mul, of-sign, of-rel, size, code, need}
-use Rattle.meaning.specs.Meaning.{Store, Outcome, done, ended, Act, after, _>>=_, _>>_, give, end-with, unit, result, value-of, set, Value, signed-value, rounds, take, write, mean}
+use Rattle.machine.specs.Endings.{no-reading-left, print-does-not-fit}
+use Rattle.machine.specs.Numbers.{Result, value, ends, is-false, negation, decimal}
+use Rattle.machine.specs.Instructions.{Instruction, halt, push-int, load-stack, store-stack, jump, jump-if-false, not, read, print-int, print-str, print-str-ln}
+use Rattle.machine.specs.Machine.{Lent, Outside, string-from, reading, one-used, printed, Step, go, stop, pushed, resulting, pairs, jumped, taken, written, quoted, does, decoded, fetched, step, End, run}
+use Rattle.meaning.specs.Meaning.{Store, Outcome, done, ended, Act, after, _>>=_, _>>_, give, end-with, unit, result, value-of, set, take, write}
 use Rattle.meaning.proofs.Cells.{cells, deep, peek-below, poke-below}
 
 -- what comes after an outcome

@@ -1,20 +1,20 @@
 -- The run of a Program's code is its meaning.
-use mathlib.Core.Path.{_≡_, refl, sym, ap, _∙_}
-use mathlib.Core.List.{List, [], _∷_, _++_}
+use mathlib.Core.Path.{_≡_, refl, ap, _∙_}
+use mathlib.Core.List.{List, [], _∷_}
 use Prim.Native.Nat.{ℕ, zero, suc, _+_, _≤_, _<_}
 use native.Mathlib.Nat.{le-refl, zero-add}
 use native.Mathlib.Omega.{arith}
 use lib.IntN.{ℤ, pos}
-use lib.ListN.{length, replicate, length-replicate}
+use lib.ListN.{replicate, length-replicate}
 use borrow.Author.Tests.{lt-ltb}
 use Rattle.sentence.specs.Sentences.{Sen, command}
 use Rattle.machine.specs.Endings.{normal}
-use Rattle.machine.specs.Instructions.{Instruction, halt, push-int, numbers}
-use Rattle.machine.specs.Machine.{Lent, untouched, pushed, pairs, does, fetched, End, run, report, whole-run}
+use Rattle.machine.specs.Instructions.{halt, push-int, numbers}
+use Rattle.machine.specs.Machine.{Lent, untouched, pushed, pairs, does, End, run, report, whole-run}
 use Rattle.machine.proofs.Pairs.{even, pairs-are, fetched-is}
-use Rattle.meaning.specs.Layout.{size, code, program-code, program-need}
+use Rattle.meaning.specs.Layout.{size, program-code, program-need}
 use Rattle.meaning.specs.Fits.{Fits}
-use Rattle.meaning.specs.Meaning.{Store, start, Outcome, done, ended, after, _>>_, give, end-with, unit, mean, declarations, program, meaning}
+use Rattle.meaning.specs.Meaning.{Store, start, Outcome, done, ended, after, _>>_, give, end-with, unit, declarations, program, meaning}
 use Rattle.meaning.proofs.Cells.{cells, length-cells}
 use Rattle.meaning.proofs.Laid.{laid-program, Holds, holds-split, holds-code, holds-all}
 use Rattle.meaning.proofs.Leads.{finish, finish-after, continue, unit-step}

@@ -1,5 +1,4 @@
 -- What is so of every variable and of every string of a sentence.
-use Prim.Native.Nat.{ℕ}
 use Rattle.lexeme.specs.Lexemes.{Quoted}
 use Rattle.sentence.specs.Sentences.{Kind, Sen, literal, variable, bracket, first, multiply, unsigned, signed, add, negated, compare, print, print-line, print-string, declare, input, assign, error, while, when, block, single, then}
 
