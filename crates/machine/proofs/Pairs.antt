@@ -34,10 +34,10 @@ All-sound [] = Unit {0}
 All-sound (i ∷ is) = Sound i × All-sound is
 
 -- the two numbers of an instruction, and that they decode to it
-Written : Instruction → Type 0
+unfoldable pub Written : Instruction → Type 0
 Written i = (x y : ℤ) × ((t : List ℤ) → pair i t ≡ x ∷ y ∷ t) × (decode x y ≡ some i)
 
-written : (i : Instruction) → Sound i → Written i
+pub written : (i : Instruction) → Sound i → Written i
 unfolding Written Sound decode operation pair number alone natural halting is-false
 written (halt h) s = (pos 1, pos h, λ t. refl, rw (lt-ltb h 2 s))
 written (push-int v) s = (pos 2, v, λ t. refl, refl)
