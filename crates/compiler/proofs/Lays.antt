@@ -1,0 +1,232 @@
+-- Laws of naming and writing: one for each construct, in the shape in which the code builds its walks and tables.
+use mathlib.Core.Path.{_≡_, refl, sym, ap, _∙_, subst}
+use mathlib.Core.List.{List, [], _∷_, _++_, append-nil}
+use mathlib.Core.Bool.{Bool, true, false, cond}
+use mathlib.Core.Logic.{_⊎_, inl, inr}
+use Prim.Native.Nat.{ℕ, zero, suc, _+_, _*_, _-_, _≤_, _<_, max}
+use native.Mathlib.Nat.{le-refl, le-trans, add-zero}
+use native.Mathlib.Numerals.{add-one}
+use native.Mathlib.Omega.{arith}
+use lib.Dec.{ltb, eqb}
+use lib.IntN.{ℤ, pos}
+use lib.ListN.{length, getD, set, replicate, length-set}
+use lib.Seq.{sets, getD-set-same, getD-set-other, length-sets}
+use borrow.Author.Tests.{ltb-true}
+use Rattle.lexeme.specs.Answers.{Answer, given, refused, pass}
+use Rattle.lexeme.specs.Bytes.{same}
+use Rattle.lexeme.specs.Coded.{sign-code, mul-code, rel-code}
+use Rattle.lexeme.specs.Lexemes as L
+use Rattle.lexeme.specs.Lexemes.{Name, Quoted, Sign, Mul, Rel}
+use Rattle.sentence.specs.Sentences.{Kind, Sen, factor, term, expression, condition, command, commands, literal, variable, bracket, first, multiply, unsigned, signed, add, negated, compare, print, print-line, print-string, declare, input, assign, error, while, when, block, single, then}
+use Rattle.names.specs.Names as N
+use Rattle.names.specs.Names.{Declaration, Scope, Known, Naming, _>>=_, give, look-up, used, declared-here, scoped, resolve}
+use Rattle.machine.specs.Numbers.{Two-sided}
+use Rattle.machine.specs.Instructions.{Instruction, halt, push-int, load-stack, store-stack, jump, jump-if-false, two-sided, negate, not, read, print-int, print-str, print-str-ln, number, pair}
+use Rattle.meaning.specs.Layout.{of-mul, of-sign, of-rel, size, code, need}
+use Rattle.compiler.specs.declared.walk.Walk.{Walk}
+use Rattle.compiler.specs.declared.scope.Cell.{Cell}
+use Rattle.compiler.specs.declared.scope.Cell.the-variants.{At, Nowhere}
+use Rattle.compiler.specs.Scopes.{word-at, name-at, entered, declarations, stand}
+use Rattle.compiler.specs.Steps.{moved-to, one-more, needing, faulted-walk, operation-number, found, noted-walk, cell-number, declared-walk, declared-names}
+use Rattle.compiler.specs.Tables.{put, emit}
+use Rattle.compiler.specs.Walks.{named, scope-of, Laid, spare, Small, Kept, Lays}
+use Rattle.compiler.proofs.Emits.{put-put, emit-code, emit-one, put-before, mul-operation, sign-operation, rel-operation}
+
+-- ---- answers
+
+-- the answer o leads to the scope s, or its refusal, and what it gives has P
+data Leads {A : Type 0} (P : A → Type 0) (s : Answer Scope) (o : Answer (Known A)) : Type 0 where
+  gives : (r : Known A) → o ≡ given r → s ≡ given (r .scope) → P (r .what) → Leads P s o
+  refuses : (n p : ℕ) → o ≡ refused n p → s ≡ refused n p → Leads P s o
+
+given-has : {A : Type 0} {P : A → Type 0} {s : Answer Scope} {o : Answer (Known A)} → Leads P s o → (r : Known A) → o ≡ given r → P (r .what)
+given-has (gives r e d p) q f = let h : r ≡ q = cc in rw (← h) p
+given-has (refuses n i e d) q f = let z : _≡_ {A = ℕ} 0 1 = cc in absurd (omega arith)
+
+module _ {A B : Type 0} (m : Naming A) (f : A → Naming B) (s : Answer Scope) where
+  bound : pass s (m >>= f) ≡ pass (pass s m) (λ a. f (a .what) (a .scope))
+  unfolding _>>=_
+  bound = by s
+    where
+      by : (s : Answer Scope) → pass s (m >>= f) ≡ pass (pass s m) (λ a. f (a .what) (a .scope))
+      by (given t) = unfold pass _>>=_ in refl
+      by (refused n p) = unfold pass in refl
+
+  bind-given : (r : Known A) → pass s m ≡ given r → pass s (m >>= f) ≡ f (r .what) (r .scope)
+  unfolding pass
+  bind-given r e = bound ∙ ap (λ o. pass o (λ a. f (a .what) (a .scope))) e
+
+  bind-refused : (n p : ℕ) → pass s m ≡ refused n p → pass s (m >>= f) ≡ refused n p
+  unfolding pass
+  bind-refused n p e = bound ∙ ap (λ o. pass o (λ a. f (a .what) (a .scope))) e
+
+leads-give : {A : Type 0} {P : A → Type 0} (a : A) (s : Answer Scope) → P a → Leads P s (pass s (give a))
+unfolding pass give
+leads-give a (given s) p = gives (record { what = a; scope = s }) refl refl p
+leads-give a (refused n q) p = refuses n q refl refl
+
+module _ {A C : Type 0} {P : A → Type 0} {R : C → Type 0} {s′ : Answer Scope} where
+  leads-one : (f : A → C) → ((a : A) → P a → R (f a)) → (m : Naming A) (s : Answer Scope) → Leads P s′ (pass s m) → Leads R s′ (pass s (m >>= λ a. give (f a)))
+  unfolding give
+  leads-one f makes m s (gives r e d p) = gives (record { what = f (r .what); scope = r .scope }) (bind-given m (λ a. give (f a)) s r e) d (makes (r .what) p)
+  leads-one f makes m s (refuses n i e d) = refuses n i (bind-refused m (λ a. give (f a)) s n i e) d
+
+module _ {A B C : Type 0} {P : A → Type 0} {Q : B → Type 0} {R : C → Type 0} {s₁ s₂ : Answer Scope} where
+  leads-two : (f : A → B → C) → ((a : A) (b : B) → P a → Q b → R (f a b)) → (m : Naming A) (n : Naming B) (s : Answer Scope) →
+      Leads P s₁ (pass s m) → Leads Q s₂ (pass s₁ n) → Leads R s₂ (pass s (m >>= λ a. n >>= λ b. give (f a b)))
+  unfolding pass
+  leads-two f makes m n s (gives r e d p) q =
+      rw (bind-given m (λ a. n >>= λ b. give (f a b)) s r e)
+      (leads-one (f (r .what)) (λ b. makes (r .what) b p) n (given (r .scope)) (subst (λ t. Leads Q s₂ (pass t n)) d q))
+  leads-two f makes m n s (refuses k i e d) q =
+      refuses k i (bind-refused m (λ a. n >>= λ b. give (f a b)) s k i e) (still q)
+    where
+      still : Leads Q s₂ (pass s₁ n) → s₂ ≡ refused k i
+      still (gives r a b c) = let z : _≡_ {A = Answer (Known B)} (refused k i) (given r) = unfold pass in sym (ap (λ t. pass t n) d) ∙ a in let y : _≡_ {A = ℕ} 0 1 = cc in absurd (omega arith)
+      still (refuses l j a b) = let z : _≡_ {A = Answer (Known B)} (refused k i) (refused l j) = unfold pass in sym (ap (λ t. pass t n) d) ∙ a in cc
+
+-- ---- what a walk promises, as such an answer
+
+module _ {k : Kind} {text names names′ : List ℕ} {table table′ : List ℤ} {w v : Walk} {x : Sen Name k} where
+  leads : Lays text names table w x names′ table′ v → Leads (Laid table table′ w v) (stand text names′ v) (pass (stand text names w) (resolve (length names) x))
+  leads p = by (pass (stand text names w) (resolve (length names) x)) refl
+    where
+      by : (o : Answer (Known (Sen ℕ k))) → pass (stand text names w) (resolve (length names) x) ≡ o → Leads (Laid table table′ w v) (stand text names′ v) (pass (stand text names w) (resolve (length names) x))
+      by (given r) e = unfold pass scope-of named in gives r e (p .naming ∙ ap (λ o. pass o scope-of) e) (p .laying r e)
+      by (refused n i) e = unfold pass named in refuses n i e (p .naming ∙ ap (λ o. pass o scope-of) e)
+
+  lays : Leads (Laid table table′ w v) (stand text names′ v) (pass (stand text names w) (resolve (length names) x)) → Small k names w v → Kept (w .declared) names names′ → Lays text names table w x names′ table′ v
+  unfolding named
+  lays f s t = record { naming = by f; laying = given-has f; small = s; kept = t }
+    where
+      by : Leads (Laid table table′ w v) (stand text names′ v) (pass (stand text names w) (resolve (length names) x)) → stand text names′ v ≡ pass (pass (stand text names w) (resolve (length names) x)) scope-of
+      by (gives r e d p) = unfold pass scope-of in d ∙ sym (ap (λ o. pass o scope-of) e)
+      by (refuses n i e d) = unfold pass in d ∙ sym (ap (λ o. pass o scope-of) e)
+
+-- ---- entries
+
+kept-all : (k : ℕ) (names : List ℕ) → Kept k names names
+kept-all k names = record { count = refl; entries = λ i h. refl }
+
+kept-then : {k l : ℕ} {names names₁ names₂ : List ℕ} → Kept k names names₁ → Kept l names₁ names₂ → k ≤ l → Kept k names names₂
+kept-then p q h = record { count = q .count ∙ p .count; entries = λ i j. q .entries i (le-trans j h) ∙ p .entries i j }
+
+-- ---- constructs of one part, and of two
+
+module _ {k l : Kind} {text names names′ : List ℕ} {table table₁ table₂ : List ℤ} {w u v₁ v : Walk} {x : Sen Name k} {z : Sen Name l} where
+  lays-one : (make : Sen ℕ k → Sen ℕ l) → resolve (length names) z ≡ (resolve (length names) x >>= λ a. give (make a)) → Lays text names table u x names′ table₁ v₁ →
+      stand text names u ≡ stand text names w → stand text names′ v₁ ≡ stand text names′ v → ((y : Sen ℕ k) → Laid table table₁ u v₁ y → Laid table table₂ w v (make y)) → Small l names w v → w .declared ≤ u .declared → Lays text names table w z names′ table₂ v
+  lays-one make e p a b f s h =
+      lays (rw (e, ← a, ← b) (leads-one make f (resolve (length names) x) (stand text names u) (leads p))) s
+      (kept-then (kept-all (w .declared) names) (p .kept) h)
+
+module _ {k j l : Kind} {text names names₁ names₂ : List ℕ} {table table₁ table₂ table₃ : List ℤ} {w v₁ u v₂ v : Walk} {x : Sen Name k} {y : Sen Name j} {z : Sen Name l} where
+  lays-two : (make : Sen ℕ k → Sen ℕ j → Sen ℕ l) → resolve (length names) z ≡ (resolve (length names) x >>= λ a. resolve (length names) y >>= λ b. give (make a b)) →
+      Lays text names table w x names₁ table₁ v₁ → Lays text names₁ table₁ u y names₂ table₂ v₂ → stand text names₁ u ≡ stand text names₁ v₁ → stand text names₂ v₂ ≡ stand text names₂ v →
+      ((a : Sen ℕ k) (b : Sen ℕ j) → Laid table table₁ w v₁ a → Laid table₁ table₂ u v₂ b → Laid table table₃ w v (make a b)) → Small l names w v → w .declared ≤ u .declared → Lays text names table w z names₂ table₃ v
+  lays-two make e p q a b f s h =
+      lays (rw (e, ← b) (leads-two make f (resolve (length names) x) (resolve (length names) y) (stand text names w) (leads p) after)) s
+      (kept-then (p .kept) (q .kept) h)
+    where
+      after : Leads (Laid table₁ table₂ u v₂) (stand text names₂ v₂) (pass (stand text names₁ v₁) (resolve (length names) y))
+      after = rw (← a, ← p .kept .count) (leads q)
+
+-- ---- the code of each construct
+
+-- only the places in the code and the need count
+relaid : {k : Kind} {table table′ : List ℤ} {u w v t : Walk} {y : Sen ℕ k} → u .code ≡ w .code → v .code ≡ t .code → v .need ≡ t .need → Laid table table′ u v y → Laid table table′ w t y
+relaid a b c q = record { code = rw (← a, ← b) (q .code); need = rw (← c) (q .need); numbers = rw (← a) (q .numbers) }
+
+module _ {l : Kind} {table : List ℤ} {w : Walk} where
+  -- one instruction and no part
+  laid-one : (z : Sen ℕ l) (i : Instruction) (at n : ℕ) → size z ≡ 1 → need z ≡ n → code (w .code) z ≡ i ∷ [] → Laid table (put table (w .code) (pair i [])) w (one-more (moved-to w at) n) z
+  unfolding one-more moved-to
+  laid-one z i at n s d c = record { code = ap (λ m. w .code + m) (sym s); need = sym d; numbers = sym (ap (emit table (w .code)) c ∙ emit-one table (w .code) i) }
+
+  module _ {k : Kind} {table₁ : List ℤ} {v : Walk} {y : Sen ℕ k} where
+    -- the part's code, and nothing more
+    laid-same : (z : Sen ℕ l) → size z ≡ size y → need z ≡ need y → code (w .code) z ≡ code (w .code) y → Laid table table₁ w v y → Laid table table₁ w v z
+    laid-same z s d c p = record { code = rw s (p .code); need = rw d (p .need); numbers = rw c (p .numbers) }
+
+    -- the part's code, then one instruction
+    laid-more : (z : Sen ℕ l) (i : Instruction) → size z ≡ size y + 1 → need z ≡ need y → code (w .code) z ≡ code (w .code) y ++ i ∷ [] → Laid table table₁ w v y → Laid table (put table₁ (v .code) (pair i [])) w (one-more v (v .need)) z
+    unfolding one-more
+    laid-more z i s d c p = record {
+      code = omega (arith, p .code, s);
+      need = rw d (p .need);
+      numbers = sym (ap (emit table (w .code)) c ∙ emit-code table (w .code) y (i ∷ []) ∙ rw (← p .code, ← p .numbers) (emit-one table₁ (v .code) i));
+    }
+
+    module _ {j : Kind} {table₂ : List ℤ} {u v₂ : Walk} {b : Sen ℕ j} (z : Sen ℕ l) where
+      -- both parts' code, then one instruction
+      laid-joined : (o : Two-sided) (n : ℤ) → n ≡ number o → size z ≡ size y + size b + 1 → need z ≡ max (need y) (1 + need b) → code (w .code) z ≡ code (w .code) y ++ (code (w .code + size y) b ++ two-sided o ∷ []) →
+          u .code ≡ v .code → Laid table table₁ w v y → Laid table₁ table₂ u v₂ b → Laid table (put table₂ (v₂ .code) (n ∷ pos 0 ∷ [])) w (one-more v₂ (max (v .need) (1 + v₂ .need))) z
+      unfolding one-more pair
+      laid-joined o n e s d c h p q = record {
+        code = omega (arith, p .code, q .code, s);
+        need = rw (d, ← p .need, ← q .need);
+        numbers = sym (ap (emit table (w .code)) c ∙ emit-code table (w .code) y (code (w .code + size y) b ++ two-sided o ∷ [])
+            ∙ rw (← p .code, ← p .numbers, ← h) (emit-code table₁ (u .code) b (two-sided o ∷ []) ∙ rw (← q .code, ← q .numbers, e) (emit-one table₂ (v₂ .code) (two-sided o))));
+      }
+
+-- ---- each construct
+
+-- the lexemes before a construct
+module _ {k : Kind} {text names names′ : List ℕ} {table table′ : List ℤ} {w v : Walk} {x : Sen Name k} where
+  pub lead : (e : ℕ) → w .at ≤ e → Lays text names table (moved-to w e) x names′ table′ v → Lays text names table w x names′ table′ v
+  unfolding moved-to stand
+  lead e h p = record { naming = p .naming; laying = λ r g. let q = p .laying r g in record { code = q .code; need = q .need; numbers = q .numbers }; small = omega (arith, p .small); kept = p .kept }
+
+module _ {text names : List ℕ} {table : List ℤ} {w : Walk} where
+  pub lays-literal : (n e : ℕ) → w .at < e → w .declared ≤ length names → Lays text names table w (literal n) names (put table (w .code) (pos 2 ∷ pos n ∷ [])) (one-more (moved-to w e) 1)
+  unfolding moved-to one-more stand resolve size need code pair spare
+  lays-literal n e h d = lays (leads-give (literal n) (stand text names w) (laid-one (literal n) (push-int (pos n)) e 1 refl refl refl)) (omega arith) (kept-all (w .declared) names)
+
+module _ {text names names′ : List ℕ} {table table′ : List ℤ} {w v : Walk} where
+  pub lays-bracket : {x : Sen Name expression} (e : ℕ) → v .at ≤ e → Lays text names table w x names′ table′ v → Lays text names table w (bracket x) names′ table′ (moved-to v e)
+  unfolding moved-to stand resolve size need code spare
+  lays-bracket e h p = lays-one bracket refl p refl refl (λ y q. laid-same (bracket y) refl refl refl (relaid {y = y} refl refl refl q)) (omega (arith, p .small)) (le-refl (w .declared))
+
+  pub lays-first : {x : Sen Name factor} → Lays text names table w x names′ table′ v → Lays text names table w (first x) names′ table′ v
+  unfolding resolve size need code spare
+  lays-first p = lays-one first refl p refl refl (λ y. laid-same (first y) refl refl refl) (omega (arith, p .small)) (le-refl (w .declared))
+
+  pub lays-unsigned : {x : Sen Name term} → Lays text names table w x names′ table′ v → Lays text names table w (unsigned x) names′ table′ v
+  unfolding resolve size need code spare
+  lays-unsigned p = lays-one unsigned refl p refl refl (λ y. laid-same (unsigned y) refl refl refl) (omega (arith, p .small)) (le-refl (w .declared))
+
+  pub lays-signed-plus : {x : Sen Name term} (e : ℕ) → w .at ≤ e → Lays text names table (moved-to w e) x names′ table′ v → Lays text names table w (signed L.plus x) names′ table′ v
+  unfolding resolve size need code spare
+  lays-signed-plus e h p = lead e h (lays-one (signed L.plus) refl p refl refl (λ y. laid-same (signed L.plus y) (add-zero (size y)) refl (append-nil (code _ y))) (omega (arith, p .small)) (le-refl _))
+
+  pub lays-signed-minus : {x : Sen Name term} (e : ℕ) → w .at < e → Lays text names table (moved-to w e) x names′ table′ v → Lays text names table w (signed L.minus x) names′ (put table′ (v .code) (pos 14 ∷ pos 0 ∷ [])) (one-more v (v .need))
+  unfolding moved-to one-more stand resolve size need code pair spare
+  lays-signed-minus e h p = lays-one (signed L.minus) refl p refl refl (λ y q. laid-more (signed L.minus y) negate refl refl refl (relaid {y = y} refl refl refl q)) (omega (arith, p .small)) (le-refl (w .declared))
+
+  pub lays-negated : {x : Sen Name condition} (e : ℕ) → w .at < e → Lays text names table (moved-to w e) x names′ table′ v → Lays text names table w (negated x) names′ (put table′ (v .code) (pos 15 ∷ pos 0 ∷ [])) (one-more v (v .need))
+  unfolding moved-to one-more stand resolve size need code pair spare
+  lays-negated e h p = lays-one negated refl p refl refl (λ y q. laid-more (negated y) not refl refl refl (relaid {y = y} refl refl refl q)) (omega (arith, p .small)) (le-refl (w .declared))
+
+  pub lays-print : {x : Sen Name expression} → Lays text names table w x names′ table′ v → Lays text names table w (print x) names′ (put table′ (v .code) (pos 17 ∷ pos 0 ∷ [])) (one-more v (v .need))
+  unfolding one-more stand resolve size need code pair spare
+  lays-print p = lays-one print refl p refl refl (λ y. laid-more (print y) print-int refl refl refl) (omega (arith, p .small)) (le-refl (w .declared))
+
+  pub lays-single : {x : Sen Name command} → Lays text names table w x names′ table′ v → Lays text names table w (single x) names′ table′ v
+  unfolding resolve size need code spare
+  lays-single p = lays-one single refl p refl refl (λ y. laid-same (single y) refl refl refl) (omega (arith, p .small)) (le-refl (w .declared))
+
+module _ {text names names₁ names₂ : List ℕ} {table table₁ table₂ : List ℤ} {w left v : Walk} where
+  pub lays-multiply : {x : Sen Name term} {y : Sen Name factor} (o : Mul) (e : ℕ) → left .at < e → Lays text names table w x names₁ table₁ left → Lays text names₁ table₁ (moved-to left e) y names₂ table₂ v →
+      Lays text names table w (multiply x o y) names₂ (put table₂ (v .code) (operation-number (mul-code o) ∷ pos 0 ∷ [])) (one-more v (max (left .need) (1 + v .need)))
+  unfolding moved-to one-more stand resolve size need code spare
+  lays-multiply o e h p q = lays-two (λ a b. multiply a o b) refl p q refl refl (λ a b. laid-joined (multiply a o b) (of-mul o) (operation-number (mul-code o)) (mul-operation o) refl refl refl refl) (omega (arith, p .small, q .small)) (p .small .declared)
+
+  pub lays-add : {x : Sen Name expression} {y : Sen Name term} (g : Sign) (e : ℕ) → left .at < e → Lays text names table w x names₁ table₁ left → Lays text names₁ table₁ (moved-to left e) y names₂ table₂ v →
+      Lays text names table w (add x g y) names₂ (put table₂ (v .code) (operation-number (sign-code g) ∷ pos 0 ∷ [])) (one-more v (max (left .need) (1 + v .need)))
+  unfolding moved-to one-more stand resolve size need code spare
+  lays-add g e h p q = lays-two (λ a b. add a g b) refl p q refl refl (λ a b. laid-joined (add a g b) (of-sign g) (operation-number (sign-code g)) (sign-operation g) refl refl refl refl) (omega (arith, p .small, q .small)) (p .small .declared)
+
+  pub lays-compare : {x y : Sen Name expression} (r : Rel) (e : ℕ) → left .at < e → Lays text names table w x names₁ table₁ left → Lays text names₁ table₁ (moved-to left e) y names₂ table₂ v →
+      Lays text names table w (compare x r y) names₂ (put table₂ (v .code) (operation-number (rel-code r) ∷ pos 0 ∷ [])) (one-more v (max (left .need) (1 + v .need)))
+  unfolding moved-to one-more stand resolve size need code spare
+  lays-compare r e h p q = lays-two (λ a b. compare a r b) refl p q refl refl (λ a b. laid-joined (compare a r b) (of-rel r) (operation-number (rel-code r)) (rel-operation r) refl refl refl refl) (omega (arith, p .small, q .small)) (p .small .declared)
