@@ -230,3 +230,126 @@ module _ {text names names₁ names₂ : List ℕ} {table table₁ table₂ : Li
       Lays text names table w (compare x r y) names₂ (put table₂ (v .code) (operation-number (rel-code r) ∷ pos 0 ∷ [])) (one-more v (max (left .need) (1 + v .need)))
   unfolding moved-to one-more stand resolve size need code spare
   lays-compare r e h p q = lays-two (λ a b. compare a r b) refl p q refl refl (λ a b. laid-joined (compare a r b) (of-rel r) (operation-number (rel-code r)) (rel-operation r) refl refl refl refl) (omega (arith, p .small, q .small)) (p .small .declared)
+
+-- ---- names
+
+-- what a name's cell says of it, in the scope s
+unfoldable pub of-cell : Name → Scope → Cell → Answer (Known ℕ)
+of-cell x s (At k) = given (record { what = k; scope = s })
+of-cell x s Nowhere = refused 6 (x .place)
+
+-- the cell that the code finds is the one that the paper means
+pub look-up-found : (ds : List Declaration) (x : Name) (s : Scope) → look-up ds x s ≡ of-cell x s (found ds (x .letters))
+unfolding look-up found of-cell
+look-up-found [] x s = refl
+look-up-found (d ∷ ds) x s = by (look-up-found ds x s) (same (d .letters) (x .letters))
+  where
+    by : look-up ds x s ≡ of-cell x s (found ds (x .letters)) → (b : Bool) → elim b as (λ _. Answer (Known ℕ)) [ true ↦ given (record { what = d .cell; scope = s }) | false ↦ look-up ds x s ] ≡ of-cell x s (elim b as (λ _. Cell) [ true ↦ At (d .cell) | false ↦ found ds (x .letters) ])
+    by e true = unfold of-cell in refl
+    by e false = e
+
+module _ (text names : List ℕ) (w : Walk) where
+  abbrev here : Scope
+  here = record { visible = declarations text names (w .declared); declared = w .declared }
+
+  stand-clear : eqb (w .fault) 0 ≡ true → stand text names w ≡ given here
+  unfolding stand
+  stand-clear f = rw f
+
+  stand-faulted : eqb (w .fault) 0 ≡ false → stand text names w ≡ refused (w .fault) (w .place)
+  unfolding stand
+  stand-faulted f = rw f
+
+  module _ {A : Type 0} (m : Naming A) where
+    pass-clear : eqb (w .fault) 0 ≡ true → pass (stand text names w) m ≡ m here
+    unfolding pass
+    pass-clear f = ap (λ o. pass o m) (stand-clear f)
+
+    pass-faulted : eqb (w .fault) 0 ≡ false → pass (stand text names w) m ≡ refused (w .fault) (w .place)
+    unfolding pass
+    pass-faulted f = ap (λ o. pass o m) (stand-faulted f)
+
+  module _ (place : ℕ) where
+    -- the cell of the name at the place
+    abbrev pub its-cell : Cell
+    its-cell = found (declarations text names (w .declared)) (word-at text place)
+
+    used-here : used (name-at text place) here ≡ of-cell (name-at text place) here its-cell
+    unfolding used name-at
+    used-here = look-up-found (declarations text names (w .declared)) (name-at text place) here
+
+    -- a use of the name
+    leads-used : Leads (λ k. cell-number its-cell ≡ k) (stand text names (noted-walk its-cell w place)) (pass (stand text names w) (used (name-at text place)))
+    leads-used = by its-cell used-here (eqb (w .fault) 0) refl
+      where
+        by : (c : Cell) → used (name-at text place) here ≡ of-cell (name-at text place) here c → (b : Bool) → eqb (w .fault) 0 ≡ b →
+            Leads (λ k. cell-number c ≡ k) (stand text names (noted-walk c w place)) (pass (stand text names w) (used (name-at text place)))
+        by (At k) e true f = unfold of-cell noted-walk cell-number in gives (record { what = k; scope = here }) (pass-clear (used (name-at text place)) f ∙ e) (stand-clear f) refl
+        by (At k) e false f = unfold noted-walk in refuses (w .fault) (w .place) (pass-faulted (used (name-at text place)) f) (stand-faulted f)
+        by Nowhere e true f = unfold of-cell name-at noted-walk faulted-walk in refuses 6 place (pass-clear (used (name-at text place)) f ∙ e) (rw f (unfold stand in refl))
+        by Nowhere e false f = unfold noted-walk faulted-walk in refuses (w .fault) (w .place) (pass-faulted (used (name-at text place)) f) (rw f (stand-faulted f))
+
+-- the same places, need and count
+record Beside (w v : Walk) : Type 0 where
+  at : v .at ≡ w .at
+  code : v .code ≡ w .code
+  need : v .need ≡ w .need
+
+faulted-beside : (w : Walk) (n p : ℕ) → Beside w (faulted-walk w n p) × (faulted-walk w n p .declared ≡ w .declared)
+unfolding faulted-walk
+faulted-beside w n p = by (eqb (w .fault) 0)
+  where
+    by : (b : Bool) → Beside w (cond b (record { at = w .at; code = w .code; need = w .need; declared = w .declared; fault = n; place = p }) w) × (cond b (record { at = w .at; code = w .code; need = w .need; declared = w .declared; fault = n; place = p }) w .declared ≡ w .declared)
+    by true = (record { at = refl; code = refl; need = refl }, refl)
+    by false = (record { at = refl; code = refl; need = refl }, refl)
+
+noted-beside : (c : Cell) (w : Walk) (p : ℕ) → Beside w (noted-walk c w p) × (noted-walk c w p .declared ≡ w .declared)
+unfolding noted-walk
+noted-beside (At k) w p = (record { at = refl; code = refl; need = refl }, refl)
+noted-beside Nowhere w p = faulted-beside w 6 p
+
+module _ {l : Kind} {table : List ℤ} {w v : Walk} where
+  -- two instructions and no part
+  laid-pair : (z : Sen ℕ l) (i j : Instruction) → v .code ≡ w .code + 2 → v .need ≡ need z → size z ≡ 2 → code (w .code) z ≡ i ∷ j ∷ [] → Laid table (put (put table (w .code) (pair i [])) (w .code + 1) (pair j [])) w v z
+  unfolding emit
+  laid-pair z i j a d s c = record { code = rw s a; need = d; numbers = rw (c, add-one) }
+
+module _ {text names : List ℕ} {table : List ℤ} {w : Walk} where
+  pub lays-variable : (place e : ℕ) → w .at < e → w .declared ≤ length names →
+      Lays text names table w (variable (name-at text place)) names (put table (w .code) (pos 3 ∷ pos (cell-number (its-cell text names w place)) ∷ [])) (one-more (noted-walk (its-cell text names w place) (moved-to w e) place) 1)
+  unfolding moved-to one-more stand resolve size need code pair spare
+  lays-variable place e h d =
+      let c = its-cell text names w place in
+      let b = noted-beside c (moved-to w e) place in
+      lays (leads-one variable (λ k g. record { code = ap (λ n. n + 1) (b .0 .code); need = refl; numbers = sym (emit-one table (w .code) (load-stack k) ∙ rw g) }) (used (name-at text place)) (stand text names w) (leads-used text names (moved-to w e) place))
+      (omega (arith, b .0 .at, b .0 .code, b .1)) (kept-all (w .declared) names)
+
+  pub lays-input : (place e : ℕ) → w .at < e → w .declared ≤ length names →
+      Lays text names table w (input (name-at text place)) names (put (put table (w .code) (pos 16 ∷ pos 0 ∷ [])) (w .code + 1) (pos 4 ∷ pos (cell-number (its-cell text names w place)) ∷ [])) (one-more (noted-walk (its-cell text names w place) (one-more (moved-to w e) 1) place) 1)
+  unfolding moved-to one-more stand resolve size need code pair spare
+  lays-input place e h d =
+      let c = its-cell text names w place in
+      let b = noted-beside c (one-more (moved-to w e) 1) place in
+      lays (leads-one input (λ k g. rw g (laid-pair (input k) read (store-stack k) (omega (arith, b .0 .code)) refl refl refl)) (used (name-at text place)) (stand text names w) (leads-used text names (one-more (moved-to w e) 1) place))
+      (omega (arith, b .0 .at, b .0 .code, b .1)) (kept-all (w .declared) names)
+
+  pub lays-assign : {table′ : List ℤ} {v : Walk} {x : Sen Name expression} (place e : ℕ) → w .at ≤ e → Lays text names table (noted-walk (its-cell text names w place) (moved-to w e) place) x names table′ v →
+      Lays text names table w (assign (name-at text place) x) names (put table′ (v .code) (pos 4 ∷ pos (cell-number (its-cell text names w place)) ∷ [])) (one-more v (v .need))
+  unfolding moved-to one-more stand resolve size need code pair spare
+  lays-assign {x} place e h p =
+      let c = its-cell text names w place in
+      let b = noted-beside c (moved-to w e) place in
+      lays (leads-two assign (λ k y g q. rw g (laid-more (assign k y) (store-stack k) refl refl refl (relaid {y = y} (b .0 .code) refl refl q))) (used (name-at text place)) (resolve (length names) x) (stand text names w) (leads-used text names (moved-to w e) place) (leads p))
+      (omega (arith, b .0 .at, b .0 .code, b .1, p .small)) (kept-all (w .declared) names)
+
+  pub lays-error : (e : ℕ) → w .at < e → w .declared ≤ length names → Lays text names table w error names (put table (w .code) (pos 1 ∷ pos 1 ∷ [])) (one-more (moved-to w e) 0)
+  unfolding moved-to one-more stand resolve size need code pair spare
+  lays-error e h d = lays (leads-give error (stand text names w) (laid-one error (halt 1) e 0 refl refl refl)) (omega arith) (kept-all (w .declared) names)
+
+  pub lays-print-line : (q : Quoted) (e : ℕ) → w .at < e → w .declared ≤ length names → Lays text names table w (print-line q) names (put table (w .code) (pos 19 ∷ pos (q .place) ∷ [])) (one-more (moved-to w e) 0)
+  unfolding moved-to one-more stand resolve size need code pair spare
+  lays-print-line q e h d = lays (leads-give (print-line q) (stand text names w) (laid-one (print-line q) (print-str-ln (q .place)) e 0 refl refl refl)) (omega arith) (kept-all (w .declared) names)
+
+  pub lays-print-string : (q : Quoted) (e : ℕ) → w .at < e → w .declared ≤ length names → Lays text names table w (print-string q) names (put table (w .code) (pos 18 ∷ pos (q .place) ∷ [])) (one-more (moved-to w e) 0)
+  unfolding moved-to one-more stand resolve size need code pair spare
+  lays-print-string q e h d = lays (leads-give (print-string q) (stand text names w) (laid-one (print-string q) (print-str (q .place)) e 0 refl refl refl)) (omega arith) (kept-all (w .declared) names)
