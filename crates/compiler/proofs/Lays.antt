@@ -1,17 +1,17 @@
 -- Laws of naming and writing: one for each construct, in the shape in which the code builds its walks and tables.
-use mathlib.Core.Path.{_≡_, refl, sym, ap, _∙_, subst}
-use mathlib.Core.List.{List, [], _∷_, _++_, append-nil}
+use mathlib.Core.Path.{_≡_, refl, sym, ap, ap₂, _∙_, subst}
+use mathlib.Core.List.{List, [], _∷_, _++_, append-nil, append-assoc}
 use mathlib.Core.Bool.{Bool, true, false, cond}
 use mathlib.Core.Logic.{_⊎_, inl, inr}
 use Prim.Native.Nat.{ℕ, zero, suc, _+_, _*_, _-_, _≤_, _<_, max}
-use native.Mathlib.Nat.{le-refl, le-trans, add-zero}
+use native.Mathlib.Nat.{le-refl, le-trans, add-zero, add-suc}
 use native.Mathlib.Numerals.{add-one}
 use native.Mathlib.Omega.{arith}
 use lib.Dec.{ltb, eqb}
 use lib.IntN.{ℤ, pos}
-use lib.ListN.{length, getD, set, replicate, length-set}
-use lib.Seq.{sets, getD-set-same, getD-set-other, length-sets}
-use borrow.Author.Tests.{ltb-true}
+use lib.ListN.{length, getD, take, drop, set, replicate, length-set, length-replicate, getD-replicate, List·getD-append}
+use lib.Seq.{sets, sets-eq, getD-set-same, getD-set-other, getD-append-add, length-sets, length-take-le}
+use borrow.Author.Tests.{ltb-true, eqb-true}
 use Rattle.lexeme.specs.Answers.{Answer, given, refused, pass}
 use Rattle.lexeme.specs.Bytes.{same}
 use Rattle.lexeme.specs.Coded.{sign-code, mul-code, rel-code}
@@ -346,10 +346,272 @@ module _ {text names : List ℕ} {table : List ℤ} {w : Walk} where
   unfolding moved-to one-more stand resolve size need code pair spare
   lays-error e h d = lays (leads-give error (stand text names w) (laid-one error (halt 1) e 0 refl refl refl)) (omega arith) (kept-all (w .declared) names)
 
-  pub lays-print-line : (q : Quoted) (e : ℕ) → w .at < e → w .declared ≤ length names → Lays text names table w (print-line q) names (put table (w .code) (pos 19 ∷ pos (q .place) ∷ [])) (one-more (moved-to w e) 0)
+  pub lays-print-line : (q : Quoted) (place e : ℕ) → q .place ≡ place + 1 → w .at < e → w .declared ≤ length names → Lays text names table w (print-line q) names (put table (w .code) (pos 19 ∷ pos (place + 1) ∷ [])) (one-more (moved-to w e) 0)
   unfolding moved-to one-more stand resolve size need code pair spare
-  lays-print-line q e h d = lays (leads-give (print-line q) (stand text names w) (laid-one (print-line q) (print-str-ln (q .place)) e 0 refl refl refl)) (omega arith) (kept-all (w .declared) names)
+  lays-print-line q place e p h d = rw (← p) (lays (leads-give (print-line q) (stand text names w) (laid-one (print-line q) (print-str-ln (q .place)) e 0 refl refl refl)) (omega arith) (kept-all (w .declared) names))
 
-  pub lays-print-string : (q : Quoted) (e : ℕ) → w .at < e → w .declared ≤ length names → Lays text names table w (print-string q) names (put table (w .code) (pos 18 ∷ pos (q .place) ∷ [])) (one-more (moved-to w e) 0)
+  pub lays-print-string : (q : Quoted) (place e : ℕ) → q .place ≡ place + 1 → w .at < e → w .declared ≤ length names → Lays text names table w (print-string q) names (put table (w .code) (pos 18 ∷ pos (place + 1) ∷ [])) (one-more (moved-to w e) 0)
   unfolding moved-to one-more stand resolve size need code pair spare
-  lays-print-string q e h d = lays (leads-give (print-string q) (stand text names w) (laid-one (print-string q) (print-str (q .place)) e 0 refl refl refl)) (omega arith) (kept-all (w .declared) names)
+  lays-print-string q place e p h d = rw (← p) (lays (leads-give (print-string q) (stand text names w) (laid-one (print-string q) (print-str (q .place)) e 0 refl refl refl)) (omega arith) (kept-all (w .declared) names))
+
+-- ---- declarations
+
+-- entries that are the same have the same declarations
+same-declarations : (text names names′ : List ℕ) (k : ℕ) → ((i : ℕ) → i < k → getD names′ i 0 ≡ getD names i 0) → declarations text names′ k ≡ declarations text names k
+unfolding declarations
+same-declarations text names names′ zero h = refl
+same-declarations text names names′ (suc k) h = rw (h k (le-refl (suc k)), same-declarations text names names′ k (λ i l. h i (omega arith)))
+
+module _ (text names : List ℕ) (w : Walk) (place : ℕ) where
+  declared-kept : Kept (w .declared) names (declared-names names w place)
+  unfolding declared-names
+  declared-kept = by (ltb (w .declared) (length names))
+    where
+      by : (b : Bool) → Kept (w .declared) names (cond b (set names (w .declared) (place + 1)) names)
+      by true = record { count = length-set names (w .declared) (place + 1); entries = λ i h. getD-set-other names (w .declared) i (place + 1) 0 (omega arith) }
+      by false = kept-all (w .declared) names
+
+  record Declared (v : Walk) : Type 0 where
+    beside : Beside w v
+    more : w .declared ≤ v .declared
+    room : v .declared ≤ length names
+
+  declared-beside : w .declared ≤ length names → Declared (declared-walk (length names) w place)
+  unfolding declared-walk
+  declared-beside h = by (ltb (w .declared) (length names)) refl
+    where
+      by : (b : Bool) → ltb (w .declared) (length names) ≡ b → Declared (cond b (record { at = w .at; code = w .code; need = w .need; declared = w .declared + 1; fault = w .fault; place = w .place }) (faulted-walk w 7 place))
+      by true e = record { beside = record { at = refl; code = refl; need = refl }; more = omega arith; room = omega (arith, ltb-true (w .declared) (length names) e) }
+      by false e = let f = faulted-beside w 7 place in record { beside = f .0; more = omega (arith, f .1); room = omega (arith, f .1) }
+
+  -- the declaration's entry, once it is written
+  one-declared : w .declared < length names → declarations text (set names (w .declared) (place + 1)) (w .declared + 1) ≡ record { letters = word-at text place; cell = w .declared } ∷ declarations text names (w .declared)
+  unfolding declarations entered
+  one-declared h = rw (add-one (w .declared), add-one place, getD-set-same names (w .declared) (suc place) 0 h)
+      (ap (λ ds. record { letters = word-at text place; cell = w .declared } ∷ ds) (same-declarations text names (set names (w .declared) (suc place)) (w .declared) (λ i l. getD-set-other names (w .declared) i (suc place) 0 (omega arith))))
+
+  leads-declared : Leads (λ k. w .declared ≡ k) (stand text (declared-names names w place) (declared-walk (length names) w place)) (pass (stand text names w) (declared-here (length names) (name-at text place)))
+  leads-declared = by (ltb (w .declared) (length names)) refl (eqb (w .fault) 0) refl
+    where
+      by : (b : Bool) → ltb (w .declared) (length names) ≡ b → (c : Bool) → eqb (w .fault) 0 ≡ c →
+          Leads (λ k. w .declared ≡ k) (stand text (declared-names names w place) (declared-walk (length names) w place)) (pass (stand text names w) (declared-here (length names) (name-at text place)))
+      by true e true f = gives (record { what = w .declared; scope = N.one-more (name-at text place) (here text names w) })
+          (pass-clear text names w (declared-here (length names) (name-at text place)) f ∙ (unfold declared-here in rw e))
+          (unfold declared-walk declared-names stand N.one-more name-at in rw (e, f, one-declared (ltb-true (w .declared) (length names) e), add-one)) refl
+      by true e false f = refuses (w .fault) (w .place) (pass-faulted text names w (declared-here (length names) (name-at text place)) f) (unfold declared-walk stand in rw (e, f))
+      by false e true f = refuses 7 place (pass-clear text names w (declared-here (length names) (name-at text place)) f ∙ (unfold declared-here name-at in rw e)) (unfold declared-walk faulted-walk stand in rw (e, f))
+      by false e false f = refuses (w .fault) (w .place) (pass-faulted text names w (declared-here (length names) (name-at text place)) f) (unfold declared-walk faulted-walk stand in rw (e, f) (rw f))
+
+module _ {text names : List ℕ} {table : List ℤ} {w : Walk} where
+  pub lays-declare : (place e : ℕ) → w .at < e → w .declared ≤ length names →
+      Lays text names table w (declare (name-at text place)) (declared-names names (one-more (one-more (moved-to w e) 1) 1) place) (put (put table (w .code) (pos 2 ∷ pos 0 ∷ [])) (w .code + 1) (pos 4 ∷ pos (w .declared) ∷ [])) (declared-walk (length names) (one-more (one-more (moved-to w e) 1) 1) place)
+  unfolding moved-to one-more stand resolve size need code pair spare
+  lays-declare place e h d =
+      let y = one-more (one-more (moved-to w e) 1) 1 in
+      let b = declared-beside text names y place d in
+      lays (leads-one declare (λ k g. rw (← g) (laid-pair (declare (w .declared)) (push-int (pos 0)) (store-stack (w .declared)) (omega (arith, b .beside .code)) (b .beside .need) refl refl)) (declared-here (length names) (name-at text place)) (stand text names w) (leads-declared text names y place))
+      (omega (arith, b .beside .at, b .beside .code, b .beside .need, b .more, b .room)) (declared-kept text names y place)
+
+-- ---- bodies
+
+module _ {table table₁ table₂ : List ℤ} {w c v : Walk} {x : Sen ℕ condition} {y : Sen ℕ command} (e : ℕ) (p : Laid table table₁ w c x) (q : Laid table₁ table₂ (one-more (moved-to c e) 0) v y) where
+  laid-when : Laid table (put table₂ (c .code) (pos 6 ∷ pos (v .code) ∷ [])) w (needing v (max (c .need) (v .need))) (when x y)
+  unfolding moved-to one-more needing size need code pair
+  laid-when = record {
+    code = omega (arith, p .code, q .code);
+    need = ap₂ max (p .need) (q .need);
+    numbers = sym (emit-code table (w .code) x (jump-if-false (w .code + size x + 1 + size y) ∷ code (w .code + size x + 1) y)
+        ∙ rw (← p .code, ← p .numbers, ← q .code) (sym (put-before table₁ (c .code) (jump-if-false (v .code)) (code (c .code + 1) y)) ∙ rw (← q .numbers) refl));
+  }
+
+  laid-while : Laid table (put (put table₂ (c .code) (pos 6 ∷ pos (v .code + 1) ∷ [])) (v .code) (pos 5 ∷ pos (w .code) ∷ [])) w (one-more v (max (c .need) (v .need))) (while x y)
+  unfolding moved-to one-more size need code pair
+  laid-while = record {
+    code = omega (arith, p .code, q .code);
+    need = ap₂ max (p .need) (q .need);
+    numbers = sym (emit-code table (w .code) x (jump-if-false (w .code + size x + 1 + size y + 1) ∷ (code (w .code + size x + 1) y ++ jump (w .code) ∷ []))
+        ∙ rw (← p .code, ← p .numbers, ← q .code) (sym (put-before table₁ (c .code) (jump-if-false (v .code + 1)) (code (c .code + 1) y ++ jump (w .code) ∷ []))
+        ∙ rw (emit-code table₁ (c .code + 1) y (jump (w .code) ∷ []), ← q .code, ← q .numbers, emit-one) (sym (put-put table₂ (pos 6 ∷ pos (v .code + 1) ∷ []) (pos 5 ∷ pos (w .code) ∷ []) (c .code) (v .code) (le-refl 2) (omega (arith, q .code))))));
+  }
+
+laid-then : {table table₁ table₂ : List ℤ} {w u v : Walk} {x : Sen ℕ commands} {y : Sen ℕ command} → Laid table table₁ w u x → Laid table₁ table₂ u v y → Laid table table₂ w (needing v (max (u .need) (v .need))) (then x y)
+unfolding needing size need code
+laid-then {table} {table₁} {w} {u} {x} {y} p q = record {
+  code = omega (arith, p .code, q .code);
+  need = ap₂ max (p .need) (q .need);
+  numbers = q .numbers ∙ sym (emit-code table (w .code) x (code (w .code + size x) y) ∙ rw (← p .code, ← p .numbers) refl);
+}
+
+module _ {text names names₁ names₂ : List ℕ} {table table₁ table₂ : List ℤ} {w c v : Walk} {y : Sen Name command} where
+  pub lays-when : {x : Sen Name condition} (e : ℕ) → c .at < e → Lays text names table w x names₁ table₁ c → Lays text names₁ table₁ (one-more (moved-to c e) 0) y names₂ table₂ v →
+      Lays text names table w (when x y) names₂ (put table₂ (c .code) (pos 6 ∷ pos (v .code) ∷ [])) (needing v (max (c .need) (v .need)))
+  unfolding moved-to one-more needing stand resolve spare
+  lays-when e h p q = lays-two when refl p q refl refl (λ a b. laid-when {x = a} {y = b} e) (omega (arith, p .small, q .small)) (p .small .declared)
+
+  pub lays-while : {x : Sen Name condition} (e : ℕ) → c .at < e → Lays text names table w x names₁ table₁ c → Lays text names₁ table₁ (one-more (moved-to c e) 0) y names₂ table₂ v →
+      Lays text names table w (while x y) names₂ (put (put table₂ (c .code) (pos 6 ∷ pos (v .code + 1) ∷ [])) (v .code) (pos 5 ∷ pos (w .code) ∷ [])) (one-more v (max (c .need) (v .need)))
+  unfolding moved-to one-more stand resolve spare
+  lays-while e h p q = lays-two while refl p q refl refl (λ a b. laid-while {x = a} {y = b} e) (omega (arith, p .small, q .small)) (p .small .declared)
+
+  pub lays-then : {x : Sen Name commands} → Lays text names table w x names₁ table₁ c → Lays text names₁ table₁ c y names₂ table₂ v → Lays text names table w (then x y) names₂ table₂ (needing v (max (c .need) (v .need)))
+  unfolding needing stand resolve spare
+  lays-then p q = lays-two then refl p q refl refl (λ a b. laid-then {x = a} {y = b}) (omega (arith, p .small, q .small)) (p .small .declared)
+
+-- ---- blocks
+
+module _ {A : Type 0} where
+  before-sets : (l : List A) (i : ℕ) (vs : List A) (j : ℕ) (d : A) → j < i → getD (sets l i vs) j d ≡ getD l j d
+  before-sets l i [] j d h = refl
+  before-sets l i (v ∷ vs) j d h = before-sets (set l i v) (suc i) vs j d (omega arith) ∙ getD-set-other l i j v d (omega arith)
+
+  after-front : (p q : List A) (n j : ℕ) (d : A) → length p ≡ n → getD (p ++ q) (n + j) d ≡ getD q j d
+  after-front p q n j d e = rw (← e) (getD-append-add p q j d)
+
+-- the entries that a block closes
+closed-entry : (l : List ℕ) (i n j : ℕ) → i + n ≤ length l → j < n → getD (sets l i (replicate n 0)) (i + j) 0 ≡ 0
+closed-entry l i n j h k =
+    let zeros : List ℕ = replicate n 0 in
+    let m : length zeros ≡ n = length-replicate n 0 in
+    rw (sets-eq zeros l i (omega arith), append-assoc)
+    (after-front (take i l) (zeros ++ drop (i + length zeros) l) i j 0 (length-take-le i l (omega arith)) ∙ List·getD-append zeros (drop (i + length zeros) l) 0 j (omega arith) ∙ getD-replicate n j 0 0 k)
+
+-- entries of 0 declare nothing
+gone : (text names : List ℕ) (k n : ℕ) → ((j : ℕ) → j < n → getD names (k + j) 0 ≡ 0) → declarations text names (k + n) ≡ declarations text names k
+unfolding declarations entered
+gone text names k zero h = ap (declarations text names) (add-zero k)
+gone text names k (suc n) h = rw (add-suc, h n (le-refl (suc n))) (gone text names k n (λ j l. h j (omega arith)))
+
+closed : (text names names′ : List ℕ) (k m : ℕ) → Kept k names names′ → k ≤ m → m ≤ length names → declarations text (sets names′ k (replicate (m - k) 0)) m ≡ declarations text names k
+closed text names names′ k m p h l =
+    ap (declarations text (sets names′ k (replicate (m - k) 0))) e
+    ∙ gone text (sets names′ k (replicate (m - k) 0)) k (m - k) (λ j g. closed-entry names′ k (m - k) j (omega (arith, p .count)) g)
+    ∙ same-declarations text names (sets names′ k (replicate (m - k) 0)) k (λ i g. before-sets names′ k (replicate (m - k) 0) i 0 g ∙ p .entries i g)
+  where
+    e : m ≡ k + (m - k)
+    e = omega arith
+
+module _ {A : Type 0} (m : Naming A) where
+  scoped-given : (s : Answer Scope) (t : Scope) (r : Known A) → s ≡ given t → pass s m ≡ given r → pass s (scoped m) ≡ given (record { what = r .what; scope = record { visible = t .visible; declared = r .scope .declared } })
+  unfolding pass scoped
+  scoped-given s t r e f = ap (λ o. pass o (scoped m)) e ∙ ap (λ o. pass o (λ a. given (record { what = a .what; scope = record { visible = t .visible; declared = a .scope .declared } }))) (sym (ap (λ o. pass o m) e) ∙ f)
+
+  scoped-refused : (s : Answer Scope) (n p : ℕ) → pass s m ≡ refused n p → pass s (scoped m) ≡ refused n p
+  unfolding pass scoped
+  scoped-refused (given t) n p f = ap (λ o. pass o (λ a. given (record { what = a .what; scope = record { visible = t .visible; declared = a .scope .declared } }))) f
+  scoped-refused (refused k i) n p f = cc
+
+  module _ {P : A → Type 0} (text names names′ names″ : List ℕ) (w v : Walk) where
+    leads-scoped : declarations text names″ (v .declared) ≡ declarations text names (w .declared) → Leads P (stand text names′ v) (pass (stand text names w) m) → Leads P (stand text names″ v) (pass (stand text names w) (scoped m))
+    leads-scoped h (gives r e d p) = by (eqb (w .fault) 0) refl (eqb (v .fault) 0) refl
+      where
+        by : (b : Bool) → eqb (w .fault) 0 ≡ b → (c : Bool) → eqb (v .fault) 0 ≡ c → Leads P (stand text names″ v) (pass (stand text names w) (scoped m))
+        by true f true g =
+            let i : given (here text names′ v) ≡ given (r .scope) = sym (stand-clear text names′ v g) ∙ d in
+            let j : here text names′ v ≡ r .scope = cc in
+            gives (record { what = r .what; scope = record { visible = declarations text names (w .declared); declared = r .scope .declared } }) (scoped-given (stand text names w) (here text names w) r (stand-clear text names w f) e)
+            (stand-clear text names″ v g ∙ rw (h, ← j) refl) p
+        by true f false g = let z : _≡_ {A = Answer Scope} (refused (v .fault) (v .place)) (given (r .scope)) = sym (stand-faulted text names′ v g) ∙ d in let y : _≡_ {A = ℕ} 0 1 = cc in absurd (omega arith)
+        by false f c g = let z : _≡_ {A = Answer (Known A)} (refused (w .fault) (w .place)) (given r) = sym (pass-faulted text names w m f) ∙ e in let y : _≡_ {A = ℕ} 0 1 = cc in absurd (omega arith)
+    leads-scoped h (refuses n i e d) = refuses n i (scoped-refused (stand text names w) n i e) (by (eqb (v .fault) 0) refl)
+      where
+        by : (c : Bool) → eqb (v .fault) 0 ≡ c → stand text names″ v ≡ refused n i
+        by true g = let z : _≡_ {A = Answer Scope} (given (here text names′ v)) (refused n i) = sym (stand-clear text names′ v g) ∙ d in let y : _≡_ {A = ℕ} 0 1 = cc in absurd (omega arith)
+        by false g = stand-faulted text names″ v g ∙ sym (stand-faulted text names′ v g) ∙ d
+
+module _ {text names names′ : List ℕ} {table table′ : List ℤ} {w v : Walk} where
+  pub lays-block : {x : Sen Name commands} (e : ℕ) → v .at ≤ e → Lays text names table w x names′ table′ v → Lays text names table w (block x) (sets names′ (w .declared) (replicate (v .declared - w .declared) 0)) table′ (moved-to v e)
+  unfolding moved-to stand resolve size need code spare
+  lays-block {x} e h p =
+      let zeros : List ℕ = replicate (v .declared - w .declared) 0 in
+      lays (leads-one block (λ y q. laid-same (block y) refl refl refl (relaid {y = y} refl refl refl q)) (scoped (resolve (length names) x)) (stand text names w)
+      (leads-scoped (resolve (length names) x) text names names′ (sets names′ (w .declared) zeros) w v (closed text names names′ (w .declared) (v .declared) (p .kept) (p .small .declared) (p .small .room)) (leads p)))
+      (omega (arith, p .small))
+      (record { count = length-sets names′ (w .declared) zeros ∙ p .kept .count; entries = λ i g. before-sets names′ (w .declared) zeros i 0 g ∙ p .kept .entries i g })
+
+-- ---- refusals
+
+-- a refusal is 6 or 7
+Only : {A : Type 0} → Answer A → Type 0
+Only (given a) = Unit {0}
+Only (refused n p) = (n ≡ 6) ⊎ (n ≡ 7)
+
+record Refusing {A : Type 0} (m : Naming A) : Type 0 where
+  only : (s : Scope) → Only (m s)
+
+only-pass : {A B : Type 0} (o : Answer A) (f : A → Answer B) → Only o → ((a : A) → Only (f a)) → Only (pass o f)
+unfolding Only pass
+only-pass (given a) f p q = q a
+only-pass (refused n i) f p q = p
+
+gives-all : {A : Type 0} (a : A) → Refusing (give a)
+unfolding give Only
+gives-all a = record { only = λ s. tt }
+
+binds : {A B : Type 0} {m : Naming A} {f : A → Naming B} → Refusing m → ((a : A) → Refusing (f a)) → Refusing (m >>= f)
+unfolding _>>=_
+binds {m} {f} p q = record { only = λ s. only-pass (m s) (λ a. f (a .what) (a .scope)) (p .only s) (λ a. q (a .what) .only (a .scope)) }
+
+uses : (x : Name) → Refusing (used x)
+unfolding used
+uses x = record { only = λ s. rw look-up-found (by s (found (s .visible) (x .letters))) }
+  where
+    by : (s : Scope) (c : Cell) → Only (of-cell x s c)
+    by s (At k) = unfold of-cell Only in tt
+    by s Nowhere = unfold of-cell Only in inl refl
+
+declares : (limit : ℕ) (x : Name) → Refusing (declared-here limit x)
+unfolding declared-here
+declares limit x = record { only = λ s. by s (ltb (s .declared) limit) }
+  where
+    by : (s : Scope) (b : Bool) → Only {A = Known ℕ} (cond b (given (record { what = s .declared; scope = N.one-more x s })) (refused 7 (x .place)))
+    by s true = unfold Only in tt
+    by s false = unfold Only in inr refl
+
+closes : {A : Type 0} {m : Naming A} → Refusing m → Refusing (scoped m)
+unfolding scoped Only
+closes {m} p = record { only = λ s. only-pass (m s) (λ a. given (record { what = a .what; scope = record { visible = s .visible; declared = a .scope .declared } })) (p .only s) (λ a. tt) }
+
+module _ (limit : ℕ) where
+  resolves : {k : Kind} (x : Sen Name k) → Refusing (resolve limit x)
+  unfolding resolve
+  resolves (literal n) = gives-all _
+  resolves (variable x) = binds (uses x) (λ _. gives-all _)
+  resolves (bracket e) = binds (resolves e) (λ _. gives-all _)
+  resolves (first f) = binds (resolves f) (λ _. gives-all _)
+  resolves (multiply t o f) = binds (resolves t) (λ _. binds (resolves f) (λ _. gives-all _))
+  resolves (unsigned t) = binds (resolves t) (λ _. gives-all _)
+  resolves (signed g t) = binds (resolves t) (λ _. gives-all _)
+  resolves (add e g t) = binds (resolves e) (λ _. binds (resolves t) (λ _. gives-all _))
+  resolves (negated c) = binds (resolves c) (λ _. gives-all _)
+  resolves (compare d r e) = binds (resolves d) (λ _. binds (resolves e) (λ _. gives-all _))
+  resolves (print e) = binds (resolves e) (λ _. gives-all _)
+  resolves (print-line q) = gives-all _
+  resolves (print-string q) = gives-all _
+  resolves (declare x) = binds (declares limit x) (λ _. gives-all _)
+  resolves (input x) = binds (uses x) (λ _. gives-all _)
+  resolves (assign x e) = binds (uses x) (λ _. binds (resolves e) (λ _. gives-all _))
+  resolves error = gives-all _
+  resolves (while c m) = binds (resolves c) (λ _. binds (resolves m) (λ _. gives-all _))
+  resolves (when c m) = binds (resolves c) (λ _. binds (resolves m) (λ _. gives-all _))
+  resolves (block ms) = binds (closes (resolves ms)) (λ _. gives-all _)
+  resolves (single m) = binds (resolves m) (λ _. gives-all _)
+  resolves (then ms m) = binds (resolves ms) (λ _. binds (resolves m) (λ _. gives-all _))
+
+  pub refused-6-or-7 : {k : Kind} (x : Sen Name k) (s : Scope) (n p : ℕ) → named limit x (given s) ≡ refused n p → (n ≡ 6) ⊎ (n ≡ 7)
+  unfolding named pass
+  refused-6-or-7 x s n p e = unfold Only in subst (λ o. Only o) e (resolves x .only s)
+
+-- a walk that began with no refusal has none, or 6 or 7
+pub fault-0-6-7 : {k : Kind} {text names names′ : List ℕ} {table table′ : List ℤ} {w v : Walk} {x : Sen Name k} {s : Scope} → stand text names w ≡ given s → Lays text names table w x names′ table′ v → (v .fault ≡ 0) ⊎ ((v .fault ≡ 6) ⊎ (v .fault ≡ 7))
+fault-0-6-7 {text} {names} {names′} {v} {x} {s} g p = by (eqb (v .fault) 0) refl
+  where
+    still : (o : Answer (Known (Sen ℕ _))) → named (length names) x (given s) ≡ o → refused (v .fault) (v .place) ≡ pass o scope-of → (v .fault ≡ 6) ⊎ (v .fault ≡ 7)
+    still (given r) e f = let z : _≡_ {A = Answer Scope} (refused (v .fault) (v .place)) (given (r .scope)) = unfold pass scope-of in f in let y : _≡_ {A = ℕ} 0 1 = cc in absurd (omega arith)
+    still (refused n i) e f =
+        let z : _≡_ {A = Answer Scope} (refused (v .fault) (v .place)) (refused n i) = unfold pass in f in
+        let y : v .fault ≡ n = cc in
+        rw y (refused-6-or-7 (length names) x s n i e)
+
+    by : (b : Bool) → eqb (v .fault) 0 ≡ b → (v .fault ≡ 0) ⊎ ((v .fault ≡ 6) ⊎ (v .fault ≡ 7))
+    by true e = inl (eqb-true (v .fault) 0 e)
+    by false e = inr (still (named (length names) x (given s)) refl (sym (stand-faulted text names′ v e) ∙ p .naming ∙ ap (λ t. pass (named (length names) x t) scope-of) g))
