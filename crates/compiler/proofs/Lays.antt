@@ -16,7 +16,7 @@ use Rattle.lexeme.specs.Answers.{Answer, given, refused, pass}
 use Rattle.lexeme.specs.Bytes.{same}
 use Rattle.lexeme.specs.Coded.{sign-code, mul-code, rel-code}
 use Rattle.lexeme.specs.Lexemes as L
-use Rattle.lexeme.specs.Lexemes.{Name, Quoted, Sign, Mul, Rel}
+use Rattle.lexeme.specs.Lexemes.{Name, Quoted, Sign, Mul, Rel, Sizes}
 use Rattle.sentence.specs.Sentences.{Kind, Sen, factor, term, expression, condition, command, commands, literal, variable, bracket, first, multiply, unsigned, signed, add, negated, compare, print, print-line, print-string, declare, input, assign, error, while, when, block, single, then}
 use Rattle.names.specs.Names as N
 use Rattle.names.specs.Names.{Declaration, Scope, Known, Naming, _>>=_, give, look-up, used, declared-here, scoped, resolve}
@@ -29,7 +29,8 @@ use Rattle.compiler.specs.declared.scope.Cell.the-variants.{At, Nowhere}
 use Rattle.compiler.specs.Scopes.{word-at, name-at, entered, declarations, stand}
 use Rattle.compiler.specs.Steps.{moved-to, one-more, needing, faulted-walk, operation-number, found, noted-walk, cell-number, declared-walk, declared-names}
 use Rattle.compiler.specs.Tables.{put, emit}
-use Rattle.compiler.specs.Walks.{named, scope-of, Laid, spare, Small, Kept, Lays}
+use Rattle.compiler.specs.Walks.{named, scope-of, Laid, spare, Small, Kept, Lays, Ready}
+use Rattle.compiler.specs.Lexing.{Clean}
 use Rattle.compiler.proofs.Emits.{put-put, emit-code, emit-one, put-before, mul-operation, sign-operation, rel-operation}
 
 -- ---- answers
@@ -39,26 +40,30 @@ data Leads {A : Type 0} (P : A → Type 0) (s : Answer Scope) (o : Answer (Known
   gives : (r : Known A) → o ≡ given r → s ≡ given (r .scope) → P (r .what) → Leads P s o
   refuses : (n p : ℕ) → o ≡ refused n p → s ≡ refused n p → Leads P s o
 
+never : {A C : Type 0} {a : A} {n p : ℕ} → given a ≡ refused n p → C
+never e = let z : _≡_ {A = ℕ} 0 1 = cc in absurd (omega arith)
+
 given-has : {A : Type 0} {P : A → Type 0} {s : Answer Scope} {o : Answer (Known A)} → Leads P s o → (r : Known A) → o ≡ given r → P (r .what)
 given-has (gives r e d p) q f = let h : r ≡ q = cc in rw (← h) p
-given-has (refuses n i e d) q f = let z : _≡_ {A = ℕ} 0 1 = cc in absurd (omega arith)
+given-has (refuses n i e d) q f = never (sym f ∙ e)
+
+refused-is : {A : Type 0} {P : A → Type 0} {s : Answer Scope} {o : Answer (Known A)} {n p : ℕ} → Leads P s o → o ≡ refused n p → s ≡ refused n p
+refused-is (gives r e d q) f = never (sym e ∙ f)
+refused-is (refuses k i e d) f = cc
+
+bound : {A B : Type 0} (m : Naming A) (f : A → Naming B) (s : Answer Scope) → pass s (m >>= f) ≡ pass (pass s m) (λ a. f (a .what) (a .scope))
+unfolding pass _>>=_
+bound m f (given t) = refl
+bound m f (refused n p) = refl
 
 module _ {A B : Type 0} (m : Naming A) (f : A → Naming B) (s : Answer Scope) where
-  bound : pass s (m >>= f) ≡ pass (pass s m) (λ a. f (a .what) (a .scope))
-  unfolding _>>=_
-  bound = by s
-    where
-      by : (s : Answer Scope) → pass s (m >>= f) ≡ pass (pass s m) (λ a. f (a .what) (a .scope))
-      by (given t) = unfold pass _>>=_ in refl
-      by (refused n p) = unfold pass in refl
-
   bind-given : (r : Known A) → pass s m ≡ given r → pass s (m >>= f) ≡ f (r .what) (r .scope)
   unfolding pass
-  bind-given r e = bound ∙ ap (λ o. pass o (λ a. f (a .what) (a .scope))) e
+  bind-given r e = bound m f s ∙ ap (λ o. pass o (λ a. f (a .what) (a .scope))) e
 
   bind-refused : (n p : ℕ) → pass s m ≡ refused n p → pass s (m >>= f) ≡ refused n p
   unfolding pass
-  bind-refused n p e = bound ∙ ap (λ o. pass o (λ a. f (a .what) (a .scope))) e
+  bind-refused n p e = bound m f s ∙ ap (λ o. pass o (λ a. f (a .what) (a .scope))) e
 
 leads-give : {A : Type 0} {P : A → Type 0} (a : A) (s : Answer Scope) → P a → Leads P s (pass s (give a))
 unfolding pass give
@@ -79,11 +84,7 @@ module _ {A B C : Type 0} {P : A → Type 0} {Q : B → Type 0} {R : C → Type 
       rw (bind-given m (λ a. n >>= λ b. give (f a b)) s r e)
       (leads-one (f (r .what)) (λ b. makes (r .what) b p) n (given (r .scope)) (subst (λ t. Leads Q s₂ (pass t n)) d q))
   leads-two f makes m n s (refuses k i e d) q =
-      refuses k i (bind-refused m (λ a. n >>= λ b. give (f a b)) s k i e) (still q)
-    where
-      still : Leads Q s₂ (pass s₁ n) → s₂ ≡ refused k i
-      still (gives r a b c) = let z : _≡_ {A = Answer (Known B)} (refused k i) (given r) = unfold pass in sym (ap (λ t. pass t n) d) ∙ a in let y : _≡_ {A = ℕ} 0 1 = cc in absurd (omega arith)
-      still (refuses l j a b) = let z : _≡_ {A = Answer (Known B)} (refused k i) (refused l j) = unfold pass in sym (ap (λ t. pass t n) d) ∙ a in cc
+      refuses k i (bind-refused m (λ a. n >>= λ b. give (f a b)) s k i e) (refused-is q (ap (λ t. pass t n) d))
 
 -- ---- what a walk promises, as such an answer
 
@@ -289,23 +290,27 @@ module _ (text names : List ℕ) (w : Walk) where
         by Nowhere e true f = unfold of-cell name-at noted-walk faulted-walk in refuses 6 place (pass-clear (used (name-at text place)) f ∙ e) (rw f (unfold stand in refl))
         by Nowhere e false f = unfold noted-walk faulted-walk in refuses (w .fault) (w .place) (pass-faulted (used (name-at text place)) f) (rw f (stand-faulted f))
 
--- the same places, need and count
+-- the walks differ in their refusals at most
 record Beside (w v : Walk) : Type 0 where
   at : v .at ≡ w .at
   code : v .code ≡ w .code
   need : v .need ≡ w .need
+  declared : v .declared ≡ w .declared
 
-faulted-beside : (w : Walk) (n p : ℕ) → Beside w (faulted-walk w n p) × (faulted-walk w n p .declared ≡ w .declared)
+beside-itself : (w : Walk) → Beside w w
+beside-itself w = record { at = refl; code = refl; need = refl; declared = refl }
+
+faulted-beside : (w : Walk) (n p : ℕ) → Beside w (faulted-walk w n p)
 unfolding faulted-walk
 faulted-beside w n p = by (eqb (w .fault) 0)
   where
-    by : (b : Bool) → Beside w (cond b (record { at = w .at; code = w .code; need = w .need; declared = w .declared; fault = n; place = p }) w) × (cond b (record { at = w .at; code = w .code; need = w .need; declared = w .declared; fault = n; place = p }) w .declared ≡ w .declared)
-    by true = (record { at = refl; code = refl; need = refl }, refl)
-    by false = (record { at = refl; code = refl; need = refl }, refl)
+    by : (b : Bool) → Beside w (cond b (record { at = w .at; code = w .code; need = w .need; declared = w .declared; fault = n; place = p }) w)
+    by true = record { at = refl; code = refl; need = refl; declared = refl }
+    by false = beside-itself w
 
-noted-beside : (c : Cell) (w : Walk) (p : ℕ) → Beside w (noted-walk c w p) × (noted-walk c w p .declared ≡ w .declared)
+noted-beside : (c : Cell) (w : Walk) (p : ℕ) → Beside w (noted-walk c w p)
 unfolding noted-walk
-noted-beside (At k) w p = (record { at = refl; code = refl; need = refl }, refl)
+noted-beside (At k) w p = beside-itself w
 noted-beside Nowhere w p = faulted-beside w 6 p
 
 module _ {l : Kind} {table : List ℤ} {w v : Walk} where
@@ -321,8 +326,8 @@ module _ {text names : List ℕ} {table : List ℤ} {w : Walk} where
   lays-variable place e h d =
       let c = its-cell text names w place in
       let b = noted-beside c (moved-to w e) place in
-      lays (leads-one variable (λ k g. record { code = ap (λ n. n + 1) (b .0 .code); need = refl; numbers = sym (emit-one table (w .code) (load-stack k) ∙ rw g) }) (used (name-at text place)) (stand text names w) (leads-used text names (moved-to w e) place))
-      (omega (arith, b .0 .at, b .0 .code, b .1)) (kept-all (w .declared) names)
+      lays (leads-one variable (λ k g. record { code = ap (λ n. n + 1) (b .code); need = refl; numbers = sym (emit-one table (w .code) (load-stack k) ∙ rw g) }) (used (name-at text place)) (stand text names w) (leads-used text names (moved-to w e) place))
+      (omega (arith, b)) (kept-all (w .declared) names)
 
   pub lays-input : (place e : ℕ) → w .at < e → w .declared ≤ length names →
       Lays text names table w (input (name-at text place)) names (put (put table (w .code) (pos 16 ∷ pos 0 ∷ [])) (w .code + 1) (pos 4 ∷ pos (cell-number (its-cell text names w place)) ∷ [])) (one-more (noted-walk (its-cell text names w place) (one-more (moved-to w e) 1) place) 1)
@@ -330,8 +335,8 @@ module _ {text names : List ℕ} {table : List ℤ} {w : Walk} where
   lays-input place e h d =
       let c = its-cell text names w place in
       let b = noted-beside c (one-more (moved-to w e) 1) place in
-      lays (leads-one input (λ k g. rw g (laid-pair (input k) read (store-stack k) (omega (arith, b .0 .code)) refl refl refl)) (used (name-at text place)) (stand text names w) (leads-used text names (one-more (moved-to w e) 1) place))
-      (omega (arith, b .0 .at, b .0 .code, b .1)) (kept-all (w .declared) names)
+      lays (leads-one input (λ k g. rw g (laid-pair (input k) read (store-stack k) (omega (arith, b .code)) refl refl refl)) (used (name-at text place)) (stand text names w) (leads-used text names (one-more (moved-to w e) 1) place))
+      (omega (arith, b)) (kept-all (w .declared) names)
 
   pub lays-assign : {table′ : List ℤ} {v : Walk} {x : Sen Name expression} (place e : ℕ) → w .at ≤ e → Lays text names table (noted-walk (its-cell text names w place) (moved-to w e) place) x names table′ v →
       Lays text names table w (assign (name-at text place) x) names (put table′ (v .code) (pos 4 ∷ pos (cell-number (its-cell text names w place)) ∷ [])) (one-more v (v .need))
@@ -339,8 +344,8 @@ module _ {text names : List ℕ} {table : List ℤ} {w : Walk} where
   lays-assign {x} place e h p =
       let c = its-cell text names w place in
       let b = noted-beside c (moved-to w e) place in
-      lays (leads-two assign (λ k y g q. rw g (laid-more (assign k y) (store-stack k) refl refl refl (relaid {y = y} (b .0 .code) refl refl q))) (used (name-at text place)) (resolve (length names) x) (stand text names w) (leads-used text names (moved-to w e) place) (leads p))
-      (omega (arith, b .0 .at, b .0 .code, b .1, p .small)) (kept-all (w .declared) names)
+      lays (leads-two assign (λ k y g q. rw g (laid-more (assign k y) (store-stack k) refl refl refl (relaid {y = y} (b .code) refl refl q))) (used (name-at text place)) (resolve (length names) x) (stand text names w) (leads-used text names (moved-to w e) place) (leads p))
+      (omega (arith, b, p .small)) (kept-all (w .declared) names)
 
   pub lays-error : (e : ℕ) → w .at < e → w .declared ≤ length names → Lays text names table w error names (put table (w .code) (pos 1 ∷ pos 1 ∷ [])) (one-more (moved-to w e) 0)
   unfolding moved-to one-more stand resolve size need code pair spare
@@ -372,7 +377,9 @@ module _ (text names : List ℕ) (w : Walk) (place : ℕ) where
       by false = kept-all (w .declared) names
 
   record Declared (v : Walk) : Type 0 where
-    beside : Beside w v
+    at : v .at ≡ w .at
+    code : v .code ≡ w .code
+    need : v .need ≡ w .need
     more : w .declared ≤ v .declared
     room : v .declared ≤ length names
 
@@ -381,8 +388,8 @@ module _ (text names : List ℕ) (w : Walk) (place : ℕ) where
   declared-beside h = by (ltb (w .declared) (length names)) refl
     where
       by : (b : Bool) → ltb (w .declared) (length names) ≡ b → Declared (cond b (record { at = w .at; code = w .code; need = w .need; declared = w .declared + 1; fault = w .fault; place = w .place }) (faulted-walk w 7 place))
-      by true e = record { beside = record { at = refl; code = refl; need = refl }; more = omega arith; room = omega (arith, ltb-true (w .declared) (length names) e) }
-      by false e = let f = faulted-beside w 7 place in record { beside = f .0; more = omega (arith, f .1); room = omega (arith, f .1) }
+      by true e = record { at = refl; code = refl; need = refl; more = omega arith; room = omega (arith, ltb-true (w .declared) (length names) e) }
+      by false e = let f = faulted-beside w 7 place in record { at = f .at; code = f .code; need = f .need; more = omega arith; room = omega arith }
 
   -- the declaration's entry, once it is written
   one-declared : w .declared < length names → declarations text (set names (w .declared) (place + 1)) (w .declared + 1) ≡ record { letters = word-at text place; cell = w .declared } ∷ declarations text names (w .declared)
@@ -409,8 +416,8 @@ module _ {text names : List ℕ} {table : List ℤ} {w : Walk} where
   lays-declare place e h d =
       let y = one-more (one-more (moved-to w e) 1) 1 in
       let b = declared-beside text names y place d in
-      lays (leads-one declare (λ k g. rw (← g) (laid-pair (declare (w .declared)) (push-int (pos 0)) (store-stack (w .declared)) (omega (arith, b .beside .code)) (b .beside .need) refl refl)) (declared-here (length names) (name-at text place)) (stand text names w) (leads-declared text names y place))
-      (omega (arith, b .beside .at, b .beside .code, b .beside .need, b .more, b .room)) (declared-kept text names y place)
+      lays (leads-one declare (λ k g. rw (← g) (laid-pair (declare (w .declared)) (push-int (pos 0)) (store-stack (w .declared)) (omega (arith, b .code)) (b .need) refl refl)) (declared-here (length names) (name-at text place)) (stand text names w) (leads-declared text names y place))
+      (omega (arith, b)) (declared-kept text names y place)
 
 -- ---- bodies
 
@@ -510,12 +517,12 @@ module _ {A : Type 0} (m : Naming A) where
             let j : here text names′ v ≡ r .scope = cc in
             gives (record { what = r .what; scope = record { visible = declarations text names (w .declared); declared = r .scope .declared } }) (scoped-given (stand text names w) (here text names w) r (stand-clear text names w f) e)
             (stand-clear text names″ v g ∙ rw (h, ← j) refl) p
-        by true f false g = let z : _≡_ {A = Answer Scope} (refused (v .fault) (v .place)) (given (r .scope)) = sym (stand-faulted text names′ v g) ∙ d in let y : _≡_ {A = ℕ} 0 1 = cc in absurd (omega arith)
-        by false f c g = let z : _≡_ {A = Answer (Known A)} (refused (w .fault) (w .place)) (given r) = sym (pass-faulted text names w m f) ∙ e in let y : _≡_ {A = ℕ} 0 1 = cc in absurd (omega arith)
+        by true f false g = never (sym d ∙ stand-faulted text names′ v g)
+        by false f c g = never (sym e ∙ pass-faulted text names w m f)
     leads-scoped h (refuses n i e d) = refuses n i (scoped-refused (stand text names w) n i e) (by (eqb (v .fault) 0) refl)
       where
         by : (c : Bool) → eqb (v .fault) 0 ≡ c → stand text names″ v ≡ refused n i
-        by true g = let z : _≡_ {A = Answer Scope} (given (here text names′ v)) (refused n i) = sym (stand-clear text names′ v g) ∙ d in let y : _≡_ {A = ℕ} 0 1 = cc in absurd (omega arith)
+        by true g = never (sym (stand-clear text names′ v g) ∙ d)
         by false g = stand-faulted text names″ v g ∙ sym (stand-faulted text names′ v g) ∙ d
 
 module _ {text names names′ : List ℕ} {table table′ : List ℤ} {w v : Walk} where
@@ -603,15 +610,33 @@ module _ (limit : ℕ) where
 
 -- a walk that began with no refusal has none, or 6 or 7
 pub fault-0-6-7 : {k : Kind} {text names names′ : List ℕ} {table table′ : List ℤ} {w v : Walk} {x : Sen Name k} {s : Scope} → stand text names w ≡ given s → Lays text names table w x names′ table′ v → (v .fault ≡ 0) ⊎ ((v .fault ≡ 6) ⊎ (v .fault ≡ 7))
-fault-0-6-7 {text} {names} {names′} {v} {x} {s} g p = by (eqb (v .fault) 0) refl
+fault-0-6-7 {text} {names} {names′} {table} {table′} {w} {v} {x} {s} g p = by (leads p) (eqb (v .fault) 0) refl
   where
-    still : (o : Answer (Known (Sen ℕ _))) → named (length names) x (given s) ≡ o → refused (v .fault) (v .place) ≡ pass o scope-of → (v .fault ≡ 6) ⊎ (v .fault ≡ 7)
-    still (given r) e f = let z : _≡_ {A = Answer Scope} (refused (v .fault) (v .place)) (given (r .scope)) = unfold pass scope-of in f in let y : _≡_ {A = ℕ} 0 1 = cc in absurd (omega arith)
-    still (refused n i) e f =
-        let z : _≡_ {A = Answer Scope} (refused (v .fault) (v .place)) (refused n i) = unfold pass in f in
-        let y : v .fault ≡ n = cc in
-        rw y (refused-6-or-7 (length names) x s n i e)
+    by : Leads (Laid table table′ w v) (stand text names′ v) (pass (stand text names w) (resolve (length names) x)) → (b : Bool) → eqb (v .fault) 0 ≡ b → (v .fault ≡ 0) ⊎ ((v .fault ≡ 6) ⊎ (v .fault ≡ 7))
+    by l true e = inl (eqb-true (v .fault) 0 e)
+    by (gives r f d q) false e = never (sym d ∙ stand-faulted text names′ v e)
+    by (refuses n i f d) false e =
+        let h : refused (v .fault) (v .place) ≡ refused n i = sym (stand-faulted text names′ v e) ∙ d in
+        let j : v .fault ≡ n = cc in
+        inr (rw j (refused-6-or-7 (length names) x s n i (unfold named in rw (← g) f)))
 
-    by : (b : Bool) → eqb (v .fault) 0 ≡ b → (v .fault ≡ 0) ⊎ ((v .fault ≡ 6) ⊎ (v .fault ≡ 7))
-    by true e = inl (eqb-true (v .fault) 0 e)
-    by false e = inr (still (named (length names) x (given s)) refl (sym (stand-faulted text names′ v e) ∙ p .naming ∙ ap (λ t. pass (named (length names) x t) scope-of) g))
+-- ---- what comes after a construct
+
+module _ {sizes : Sizes} {text names names′ : List ℕ} {table table′ : List ℤ} {w v : Walk} {allow : ℕ} {k : Kind} {x : Sen Name k} (r : Ready sizes text names w allow) (p : Lays text names table w x names′ table′ v) where
+  -- the counts are in the range of the code's numbers
+  pub counts-fit : v .at ≤ length text → (v .code < 10000000) × (v .need < 10000000)
+  unfolding spare
+  counts-fit h = (omega (arith, r .short, r .code, p .small), omega (arith, r .short, p .small))
+
+  ready-at : (u : Walk) → u .at ≤ length text → Clean sizes text (u .at) → u .code ≤ 1000000 + 4 * u .at → u .declared ≡ v .declared → Ready sizes text names′ u allow
+  ready-at u i c h d = record { clean = c; inside = i; short = r .short; code = h; declared = omega (arith, p .kept .count, p .small); room = omega (arith, p .kept .count, r .room); allowed = r .allowed; literal = r .literal }
+
+  -- another construct may be read after a lexeme, or none, that ends at e
+  pub ready-after : (e : ℕ) → v .at ≤ e → e ≤ length text → Clean sizes text e → Ready sizes text names′ (moved-to v e) allow
+  unfolding moved-to
+  ready-after e h i c = ready-at (moved-to v e) i c (omega (arith, r .code, p .small)) refl
+
+  -- with a place left free for a jump
+  pub ready-body : (e : ℕ) → v .at < e → e ≤ length text → Clean sizes text e → Ready sizes text names′ (one-more (moved-to v e) 0) allow
+  unfolding moved-to one-more
+  ready-body e h i c = ready-at (one-more (moved-to v e) 0) i c (omega (arith, r .code, p .small)) refl
