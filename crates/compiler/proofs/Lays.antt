@@ -620,23 +620,35 @@ fault-0-6-7 {text} {names} {names′} {table} {table′} {w} {v} {x} {s} g p = b
         let j : v .fault ≡ n = cc in
         inr (rw j (refused-6-or-7 (length names) x s n i (unfold named in rw (← g) f)))
 
--- ---- what comes after a construct
+-- ---- what the next reader may be called with
 
-module _ {sizes : Sizes} {text names names′ : List ℕ} {table table′ : List ℤ} {w v : Walk} {allow : ℕ} {k : Kind} {x : Sen Name k} (r : Ready sizes text names w allow) (p : Lays text names table w x names′ table′ v) where
-  -- the counts are in the range of the code's numbers
-  pub counts-fit : v .at ≤ length text → (v .code < 10000000) × (v .need < 10000000)
-  unfolding spare
-  counts-fit h = (omega (arith, r .short, r .code, p .small), omega (arith, r .short, p .small))
+module _ {sizes : Sizes} {text names : List ℕ} {w : Walk} {allow : ℕ} (r : Ready sizes text names w allow) where
+  ready-at : (names′ : List ℕ) (u : Walk) (fewer : ℕ) → fewer ≤ allow → length names′ ≡ length names → u .at ≤ length text → Clean sizes text (u .at) → u .code ≤ 1000000 + 4 * u .at → u .declared ≤ length names → Ready sizes text names′ u fewer
+  ready-at names′ u fewer f n i c h d = record { clean = c; inside = i; short = r .short; code = h; declared = omega arith; room = omega (arith, r .room); allowed = omega (arith, r .allowed); literal = r .literal }
 
-  ready-at : (u : Walk) → u .at ≤ length text → Clean sizes text (u .at) → u .code ≤ 1000000 + 4 * u .at → u .declared ≡ v .declared → Ready sizes text names′ u allow
-  ready-at u i c h d = record { clean = c; inside = i; short = r .short; code = h; declared = omega (arith, p .kept .count, p .small); room = omega (arith, p .kept .count, r .room); allowed = r .allowed; literal = r .literal }
-
-  -- another construct may be read after a lexeme, or none, that ends at e
-  pub ready-after : (e : ℕ) → v .at ≤ e → e ≤ length text → Clean sizes text e → Ready sizes text names′ (moved-to v e) allow
+  -- after a lexeme that ends at e, with no more nestings allowed
+  pub ready-moved : (e fewer : ℕ) → fewer ≤ allow → w .at ≤ e → e ≤ length text → Clean sizes text e → Ready sizes text names (moved-to w e) fewer
   unfolding moved-to
-  ready-after e h i c = ready-at (moved-to v e) i c (omega (arith, r .code, p .small)) refl
+  ready-moved e fewer f h i c = ready-at names (moved-to w e) fewer f refl i c (omega (arith, r .code)) (r .declared)
 
-  -- with a place left free for a jump
-  pub ready-body : (e : ℕ) → v .at < e → e ≤ length text → Clean sizes text e → Ready sizes text names′ (one-more (moved-to v e) 0) allow
-  unfolding moved-to one-more
-  ready-body e h i c = ready-at (one-more (moved-to v e) 0) i c (omega (arith, r .code, p .small)) refl
+  -- after a use of a name
+  pub ready-noted : (cell : Cell) (place : ℕ) → Ready sizes text names (noted-walk cell w place) allow
+  ready-noted cell place =
+      let b = noted-beside cell w place in
+      ready-at names (noted-walk cell w place) allow (le-refl allow) refl (rw (b .at) (r .inside)) (rw (b .at) (r .clean)) (rw (b .at, b .code) (r .code)) (rw (b .declared) (r .declared))
+
+  module _ {names′ : List ℕ} {table table′ : List ℤ} {v : Walk} {k : Kind} {x : Sen Name k} (p : Lays text names table w x names′ table′ v) where
+    -- the counts are in the range of the code's numbers
+    pub counts-fit : v .at ≤ length text → (v .code < 10000000) × (v .need < 10000000)
+    unfolding spare
+    counts-fit h = (omega (arith, r .short, r .code, p .small), omega (arith, r .short, p .small))
+
+    -- after a construct and a lexeme, or none, that ends at e
+    pub ready-after : (e : ℕ) → v .at ≤ e → e ≤ length text → Clean sizes text e → Ready sizes text names′ (moved-to v e) allow
+    unfolding moved-to
+    ready-after e h i c = ready-at names′ (moved-to v e) allow (le-refl allow) (p .kept .count) i c (omega (arith, r .code, p .small)) (p .small .room)
+
+    -- and a place left free for a jump
+    pub ready-body : (e : ℕ) → v .at < e → e ≤ length text → Clean sizes text e → Ready sizes text names′ (one-more (moved-to v e) 0) allow
+    unfolding moved-to one-more
+    ready-body e h i c = ready-at names′ (one-more (moved-to v e) 0) allow (le-refl allow) (p .kept .count) i c (omega (arith, r .code, p .small)) (p .small .room)
