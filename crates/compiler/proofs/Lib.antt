@@ -1,6 +1,8 @@
+pub mod Emits
 pub mod Filled
 pub mod Firsts
 pub mod Found
+pub mod Lays
 pub mod Lexed
 pub mod Others
 pub mod Sizes

@@ -5,7 +5,7 @@ use mathlib.Core.Bool.{Bool, true, false, cond}
 use Prim.Native.Nat.{ℕ, suc, _+_, _*_, _≤_, _<_}
 use lib.Dec.{ltb, eqb}
 use lib.IntN.{ℤ}
-use lib.ListN.{length}
+use lib.ListN.{length, getD}
 use Rattle.lexeme.specs.Answers.{Answer, given, refused, pass}
 use Rattle.lexeme.specs.Lexemes.{Name, Lexeme, Placed, Sizes}
 use Rattle.sentence.specs.Sentences.{Kind, Sen, factor, term, expression, condition, command, commands}
@@ -68,11 +68,17 @@ pub record Small (k : Kind) (names : List ℕ) (w v : Walk) : Type 0 where
   pub declared : w .declared ≤ v .declared
   pub room : v .declared ≤ length names
 
+-- there are as many entries as before, and those of the first k cells are as before
+pub record Kept (k : ℕ) (names names′ : List ℕ) : Type 0 where
+  pub count : length names′ ≡ length names
+  pub entries : (i : ℕ) → i < k → getD names′ i 0 ≡ getD names i 0
+
 -- the names of the sentence x were resolved, and its code written, by the walk from w to v
 pub record Lays {k : Kind} (text names : List ℕ) (table : List ℤ) (w : Walk) (x : Sen Name k) (names′ : List ℕ) (table′ : List ℤ) (v : Walk) : Type 0 where
   pub naming : stand text names′ v ≡ pass (named (length names) x (stand text names w)) scope-of
   pub laying : (r : Known (Sen ℕ k)) → named (length names) x (stand text names w) ≡ given r → Laid table table′ w v (r .what)
   pub small : Small k names w v
+  pub kept : Kept (w .declared) names names′
 
 -- ---- what a reader may be called with, and what it answers
 

@@ -1,2 +1,4 @@
 pub mod Layout
+pub mod Fits
 pub mod Meaning
+pub mod Cost

@@ -1,3 +1,4 @@
 pub mod Sentences
 pub mod Grammar
 pub mod Reader
+pub mod Parts

@@ -1,0 +1,7 @@
+pub mod Cells
+pub mod Laid
+pub mod Leads
+pub mod Correct
+pub mod Whole
+pub mod Later
+pub mod Budget

@@ -1,0 +1,17 @@
+-- What a sentence over cells is run with: enough cells, and its text.
+use mathlib.Core.Path.{_≡_}
+use mathlib.Core.List.{List}
+use mathlib.Core.Option.{some}
+use Prim.Native.Nat.{ℕ, _<_}
+use Rattle.lexeme.specs.Lexemes.{Quoted}
+use Rattle.sentence.specs.Sentences.{Kind, Sen}
+use Rattle.sentence.specs.Parts.{Each}
+use Rattle.machine.specs.Machine.{string-from}
+
+-- a string stands in the text at its place
+abbrev pub Stands : List ℕ → Quoted → Type 0
+Stands text q = string-from text (q .place) ≡ some (q .inside)
+
+-- each cell of a sentence is one of d, and each of its strings stands in the text
+abbrev pub Fits : List ℕ → ℕ → {k : Kind} → Sen ℕ k → Type 0
+Fits text d x = Each (λ c. c < d) (Stands text) x
