@@ -31,8 +31,8 @@ module _ (most : Sizes) (text : List ℕ) (p : ℕ) where
     here-word t = rw (drop-cons text p 0 h, t)
 
     pub here-other : letter-or-digit (getD text p 0) ≡ false
-      → here most p (drop p text)
-      ≡ cond (eqb (getD text p 0) 34) (string-at (most .string) p (drop (p + 1) text))
+        → here most p (drop p text)
+        ≡ cond (eqb (getD text p 0) 34) (string-at (most .string) p (drop (p + 1) text))
         (cond (eqb (getD text p 0) 58) (colon p (drop (p + 1) text)) (symbol symbols p (getD text p 0)))
     unfolding here
     here-other t = rw (drop-cons text p 0 h, t, add-one)
@@ -62,7 +62,7 @@ module _ (p : ℕ) (s w : List ℕ) (part : take (p + length w - p) s ≡ w) whe
   capital-reads (k ∷ ks) = by-spelling (capital-reads ks) (same w (k .spelled))
     where
       by-spelling : what-of s p (p + length w) (kind-of (capital-word ks p w)) ≡ capital-word ks p w
-        → (t : Bool) → what-of s p (p + length w) (kind-of (elim t [ true ↦ fixed (k .means) | false ↦ capital-word ks p w ])) ≡ elim t [ true ↦ fixed (k .means) | false ↦ capital-word ks p w ]
+          → (t : Bool) → what-of s p (p + length w) (kind-of (elim t [ true ↦ fixed (k .means) | false ↦ capital-word ks p w ])) ≡ elim t [ true ↦ fixed (k .means) | false ↦ capital-word ks p w ]
       by-spelling later true = ap fixed (fixed-back (k .means))
       by-spelling later false = later
 
@@ -71,10 +71,15 @@ module _ (p : ℕ) (s w : List ℕ) (part : take (p + length w - p) s ≡ w) whe
   word-good most some within =
       by-test (Good p s) (all letter w)
       (λ _. by-test (Good p s) (ltb (most .word) (length w)) (λ _. tt)
-      (λ _. record { there = refl; some = omega arith; within = omega arith; reads =
-          by-test (λ (x : Lexeme). what-of s p (p + length w) (kind-of x) ≡ x) (starts-small w)
-          (λ _. ap (λ (x : List ℕ). name (record { letters = x; place = p })) part)
-          (λ _. capital-reads keywords) }))
+      (λ _. record {
+        there = refl;
+        some = omega arith;
+        within = omega arith;
+        reads =
+            by-test (λ (x : Lexeme). what-of s p (p + length w) (kind-of x) ≡ x) (starts-small w)
+            (λ _. ap (λ (x : List ℕ). name (record { letters = x; place = p })) part)
+            (λ _. capital-reads keywords);
+      }))
       (λ _. by-test (Good p s) (all digit w)
       (λ _. by-test (Good p s) (ltb (most .literal) (value 0 w)) (λ _. tt)
       (λ _. record { there = refl; some = omega arith; within = omega arith; reads = refl }))
@@ -86,9 +91,14 @@ string-good most p b s =
     let n = length (run no-quote s) in
     by-test (Good p (b ∷ s)) (leb (length s) n) (λ _. tt)
     (λ closed. by-test (Good p (b ∷ s)) (ltb most n) (λ _. tt)
-    (λ _. record { there = refl; some = omega arith; within = omega (arith, leb-false (length s) n closed); reads =
-        let e : p + n + 2 - p - 2 ≡ n = omega arith in
-        ap (λ (x : List ℕ). string (record { inside = x; place = p + 1 })) (rw e (run-take no-quote s)) }))
+    (λ _. record {
+      there = refl;
+      some = omega arith;
+      within = omega (arith, leb-false (length s) n closed);
+      reads =
+          let e : p + n + 2 - p - 2 ≡ n = omega arith in
+          ap (λ (x : List ℕ). string (record { inside = x; place = p + 1 })) (rw e (run-take no-quote s));
+    }))
 
 colon-good : (p b : ℕ) (s : List ℕ) → Good p (b ∷ s) (colon p s)
 unfolding colon found what-of kind-of
@@ -117,7 +127,7 @@ here-good most p (b ∷ s) =
     (λ _. by-test (Good p (b ∷ s)) (eqb b 34) (λ _. string-good (most .string) p b s)
     (λ _. by-test (Good p (b ∷ s)) (eqb b 58) (λ _. colon-good p b s)
     (λ _. symbol-good p b s
-        (refl also refl also refl also refl also refl also refl also refl also refl also refl also refl also refl also refl also refl also refl also refl also nil))))
+    (refl also refl also refl also refl also refl also refl also refl also refl also refl also refl also refl also refl also refl also refl also refl also nil))))
 
 -- a lexeme that the reader finds from the place at on, and the place after it
 pub record Stands (text : List ℕ) (at : ℕ) (l : Placed) (e : ℕ) : Type 0 where
@@ -137,22 +147,26 @@ module _ (most : Sizes) (text : List ℕ) (at : ℕ) where
         after = omega (arith, f .there);
         some = omega (arith, f .there, f .some);
         within = omega (arith, f .some, f .within, length-drop p text);
-        reads = rw (f .there) (f .reads)
+        reads = rw (f .there) (f .reads);
       }
 
   -- the code's lexeme says which one stands in the text
   pub next-is : (x : coded-lexeme.Lexeme) → Is x ≡ coded (next most text at)
-    → next most text at ≡ given (lexeme (record { place = x .place; what = what-of (drop (x .place) text) (x .place) (x .end) (x .kind) }) (x .end))
+      → next most text at ≡ given (lexeme (record { place = x .place; what = what-of (drop (x .place) text) (x .place) (x .end) (x .kind) }) (x .end))
   unfolding coded
   next-is x h = by-answer (next most text at) refl h
     where
       by-answer : (a : Answer Next) → next most text at ≡ a → Is x ≡ coded a
-        → a ≡ given (lexeme (record { place = x .place; what = what-of (drop (x .place) text) (x .place) (x .end) (x .kind) }) (x .end))
+          → a ≡ given (lexeme (record { place = x .place; what = what-of (drop (x .place) text) (x .place) (x .end) (x .kind) }) (x .end))
       by-answer (given (lexeme l e)) n i =
           let m : x ≡ record { kind = kind-of (l .what); place = l .place; end = e } = cc in
           rw (m, next-stands l e n .reads)
       by-answer (given nothing) n i = let z : _≡_ {A = ℕ} 0 1 = cc in absurd (omega arith)
       by-answer (refused k q) n i = let z : _≡_ {A = ℕ} 0 1 = cc in absurd (omega arith)
+
+  pub found-stands : (x : coded-lexeme.Lexeme) → Is x ≡ coded (next most text at)
+      → Stands text at (record { place = x .place; what = what-of (drop (x .place) text) (x .place) (x .end) (x .kind) }) (x .end)
+  found-stands x h = next-stands _ _ (next-is x h)
 
 pub coded-end : (a : Answer Next) → End ≡ coded a → a ≡ given nothing
 unfolding coded

@@ -13,7 +13,6 @@ use Rattle.lexeme.specs.Lexemes.{Next, Symbol, symbol, found}
 
 -- what holds of each element of a list
 infixr 5 _also_
-
 pub data Each {A : Type 0} (P : A → Type 0) : List A → Type 0 where
   nil : Each P []
   _also_ : {a : A} {rest : List A} → P a → Each P rest → Each P (a ∷ rest)

@@ -225,10 +225,18 @@ fn letter_word(word: &[u8], p: usize, e: usize) -> Found
         return Found::Refused(3, p);
     }
     if starts_small(word) {
-        return Found::Is(Lexeme { kind: Kind::Name, place: p, end: e });
+        return Found::Is(Lexeme {
+            kind: Kind::Name,
+            place: p,
+            end: e,
+        });
     }
     let kind = capital_word(word);
-    Found::Is(Lexeme { kind: kind, place: p, end: e })
+    Found::Is(Lexeme {
+        kind: kind,
+        place: p,
+        end: e,
+    })
 }
 
 // What a byte adds to the value of a digit word.
@@ -255,7 +263,11 @@ fn digit_word(word: &[u8], p: usize, e: usize) -> Found
         }
         i += 1;
     }
-    Found::Is(Lexeme { kind: Kind::Literal(value as u32), place: p, end: e })
+    Found::Is(Lexeme {
+        kind: Kind::Literal(value as u32),
+        place: p,
+        end: e,
+    })
 }
 
 // A word from the place p up to e: all letters, or all digits; a mixed word is refused.
@@ -284,7 +296,11 @@ fn string_at(text: &[u8], p: usize) -> Found
     if Limits::STRING < e - (p + 1) {
         return Found::Refused(3, p);
     }
-    Found::Is(Lexeme { kind: Kind::Str, place: p, end: e + 1 })
+    Found::Is(Lexeme {
+        kind: Kind::Str,
+        place: p,
+        end: e + 1,
+    })
 }
 
 // A colon at p, with what follows it.
@@ -295,7 +311,11 @@ fn colon_at(text: &[u8], p: usize) -> Found
     let q = p + 1;
     if q < text.len() {
         if text[q] == b'=' {
-            return Found::Is(Lexeme { kind: Kind::Fixed(b':'), place: p, end: p + 2 });
+            return Found::Is(Lexeme {
+                kind: Kind::Fixed(b':'),
+                place: p,
+                end: p + 2,
+            });
         }
     }
     Found::Refused(2, p)
@@ -307,10 +327,26 @@ fn symbol_at(b: u8, p: usize, q: usize) -> Found
     ensures { λ r. ⌜ r ≡ coded (symbol symbols p b) ⌝ }
 {
     match b {
-        b'+' | b'-' => Found::Is(Lexeme { kind: Kind::Sign(b), place: p, end: q }),
-        b'*' | b'/' => Found::Is(Lexeme { kind: Kind::Mul(b), place: p, end: q }),
-        b'<' | b'>' | b'=' => Found::Is(Lexeme { kind: Kind::Rel(b), place: p, end: q }),
-        b'(' | b')' | b'[' | b']' | b'{' | b'}' | b',' | b'.' => Found::Is(Lexeme { kind: Kind::Fixed(b), place: p, end: q }),
+        b'+' | b'-' => Found::Is(Lexeme {
+            kind: Kind::Sign(b),
+            place: p,
+            end: q,
+        }),
+        b'*' | b'/' => Found::Is(Lexeme {
+            kind: Kind::Mul(b),
+            place: p,
+            end: q,
+        }),
+        b'<' | b'>' | b'=' => Found::Is(Lexeme {
+            kind: Kind::Rel(b),
+            place: p,
+            end: q,
+        }),
+        b'(' | b')' | b'[' | b']' | b'{' | b'}' | b',' | b'.' => Found::Is(Lexeme {
+            kind: Kind::Fixed(b),
+            place: p,
+            end: q,
+        }),
         _ => Found::Refused(2, p),
     }
 }
