@@ -2,7 +2,7 @@
 use mathlib.Core.Path.{_≡_, refl, sym, ap, _∙_}
 use mathlib.Core.List.{List, [], _∷_}
 use mathlib.Core.Bool.{Bool, true, false}
-use Prim.Native.Nat.{ℕ, zero, suc, _+_, _-_, _*_, _≤_, _<_}
+use Prim.Native.Nat.{ℕ, suc, _+_, _-_, _*_, _≤_, _<_}
 use native.Mathlib.Nat.{le-refl}
 use native.Mathlib.Numerals.{add-one}
 use native.Mathlib.Omega.{arith}
@@ -12,7 +12,7 @@ use lib.Seq.{drop-cons}
 use borrow.Author.Tests.{eq-eqb, ne-eqb}
 use Rattle.lexeme.specs.Bytes.{small, same}
 use Rattle.lexeme.specs.Lexemes.{value, Keyword, fixed, capital-word, starts-small}
-use Rattle.lexeme.specs.Coded.{fixed-code, kind-of}
+use Rattle.lexeme.specs.Coded.{code-of, kind-of}
 use Rattle.lexeme.specs.declared.Kind.{Kind}
 use Rattle.lexeme.specs.declared.Kind.the-variants.{Fixed}
 
@@ -65,7 +65,7 @@ module _ (k : Keyword) (ks : List Keyword) (w : List ℕ) (p : ℕ) {r : Bool} (
   abbrev after-test : Bool → Kind
   after-test t = kind-of (elim t [ true ↦ fixed (k .means) | false ↦ capital-word ks p w ])
 
-  pub keyword-hit : r ≡ true → Fixed (fixed-code (k .means)) ≡ kind-of (capital-word (k ∷ ks) p w)
+  pub keyword-hit : r ≡ true → Fixed (code-of (k .means)) ≡ kind-of (capital-word (k ∷ ks) p w)
   unfolding capital-word kind-of
   keyword-hit h = ap after-test (sym h ∙ tested)
 

@@ -1,7 +1,7 @@
 -- `lexeme::next` meets its contract. Assumes nothing.
 use mathlib.Core.Path.{sym, ap, _∙_}
 use native.Mathlib.Omega.{arith}
-use borrow.Author.Tests.{eq-eqb, ne-eqb}
+use borrow.Author.Tests.{ne-eqb}
 use denote.Ref.{now}
 use lib.ListN.{drop, length-drop}
 use Rattle.lexeme.specs.Bytes.{letter-or-digit}

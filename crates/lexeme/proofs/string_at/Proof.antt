@@ -11,7 +11,6 @@ use Rattle.lexeme.specs.Lexemes.{string-at, found}
 use Rattle.lexeme.specs.Coded.{such, kind-of, coded}
 use Rattle.lexeme.specs.declared.Kind.the-variants.{Str}
 use Rattle.lexeme.specs.declared.Found.the-variants.{Is}
-use borrow.Author.Needs.{needs}
 use Rattle.lexeme.proofs.string_at.Statement.{statement}
 use Rattle.lexeme.proofs.string_at.Tie as tie
 
