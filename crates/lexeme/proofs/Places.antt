@@ -25,15 +25,19 @@ module _ (most : Sizes) (text : List ℕ) (p : ℕ) where
   unfolding here
   here-end h = rw (drop-of-length-le text h)
 
+  -- what a byte that is no letter and no digit begins
+  abbrev pub other : ℕ → Answer Next
+  other b =
+      cond (eqb b 34) (string-at (most .string) p (drop (p + 1) text))
+      (cond (eqb b 58) (colon p (drop (p + 1) text))
+      (symbol symbols p b))
+
   module _ (h : p < length text) where
     pub here-word : letter-or-digit (getD text p 0) ≡ true → here most p (drop p text) ≡ word most p (run letter-or-digit (drop p text))
     unfolding here
     here-word t = rw (drop-cons text p 0 h, t)
 
-    pub here-other : letter-or-digit (getD text p 0) ≡ false
-        → here most p (drop p text)
-        ≡ cond (eqb (getD text p 0) 34) (string-at (most .string) p (drop (p + 1) text))
-        (cond (eqb (getD text p 0) 58) (colon p (drop (p + 1) text)) (symbol symbols p (getD text p 0)))
+    pub here-other : letter-or-digit (getD text p 0) ≡ false → here most p (drop p text) ≡ other (getD text p 0)
     unfolding here
     here-other t = rw (drop-cons text p 0 h, t, add-one)
 
