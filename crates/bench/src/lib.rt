@@ -8,7 +8,7 @@ use limits::Limits;
 fn yield_as_expected(nesting: usize, declarations: usize, instructions: usize)
     requires { do ⌜ (nesting ≡ (← ⟦Limits::NESTING⟧)) × (declarations ≡ (← ⟦Limits::DECLARATIONS⟧)) × (instructions ≡ (← ⟦Limits::INSTRUCTIONS⟧)) ⌝ }
     ensures { λ _. do
-      ⌜ map (yields (record { text = (← ⟦Limits::TEXT⟧ .entry); sizes = record { word = (← ⟦Limits::WORD⟧ .entry); string = (← ⟦Limits::STRING⟧ .entry); literal = (← ⟦Limits::LITERAL⟧ .entry) }; nesting = nesting; declarations = declarations; instructions = instructions })) (starred ++ from-document-001) ≡ map expected (starred ++ from-document-001) ⌝ }
+      ⌜ map (yields (record { text = (← ⟦Limits::TEXT⟧ .entry); word = (← ⟦Limits::WORD⟧ .entry); string = (← ⟦Limits::STRING⟧ .entry); literal = (← ⟦Limits::LITERAL⟧ .entry); nesting = nesting; declarations = declarations; instructions = instructions })) (starred ++ from-document-001) ≡ map expected (starred ++ from-document-001) ⌝ }
 {}
 
 pub fn examples() {

@@ -7,7 +7,7 @@ use lib.IntN.{ℤ, pos}
 use lib.ListN.{length, replicate}
 use Rattle.limits.specs.Limits.{Limits}
 use Rattle.lexeme.specs.Answers.{Answer, given, refused, pass}
-use Rattle.lexeme.specs.Lexemes.{Placed, lexemes}
+use Rattle.lexeme.specs.Lexemes.{Placed, Sizes, sizes, lexemes}
 use Rattle.sentence.specs.Sentences.{Sen, command}
 use Rattle.sentence.specs.Reader.{read}
 use Rattle.names.specs.Names.{Known, resolved}
@@ -31,24 +31,23 @@ unfoldable pub fitting : ℕ → ℕ → Accepted → Answer Accepted
 fitting limit pairs a =
     cond (ltb limit (length (code-of-text a)) || ltb pairs (length (code-of-text a))) (refused 8 0) (given a)
 
-module _ (limits : Limits) where
-  -- what the bytes decide: 1; then the leftmost of 2 and 3
-  unfoldable pub lexed : List ℕ → Answer (List Placed)
-  lexed text =
-      pass (short-enough (limits .text) text) λ _.
-      lexemes (limits .sizes) text
+-- what the bytes decide: 1; then the leftmost of 2 and 3
+unfoldable pub lexed : ℕ → Sizes → List ℕ → Answer (List Placed)
+lexed limit sizes text =
+    pass (short-enough limit text) λ _.
+    lexemes sizes text
 
-  -- what the sentences decide: the leftmost of 4 and 5; then of 6 and 7; then 8. A code table of n numbers holds the pairs that fit.
-  unfoldable pub laid-out : List Placed → ℕ → Answer Accepted
-  laid-out ls n =
-      pass (read (limits .nesting) ls) λ m.
-      pass (resolved (limits .declarations) m) λ k.
-      fitting (limits .instructions) (n / 2) (record { command = k .what; cells = k .scope .declared })
+-- what the sentences decide: the leftmost of 4 and 5; then of 6 and 7; then 8. A code table of n numbers holds the pairs that fit.
+unfoldable pub laid-out : ℕ → ℕ → ℕ → List Placed → ℕ → Answer Accepted
+laid-out nesting declarations instructions ls n =
+    pass (read nesting ls) λ m.
+    pass (resolved declarations m) λ k.
+    fitting instructions (n / 2) (record { command = k .what; cells = k .scope .declared })
 
-  unfoldable pub compiled : List ℕ → ℕ → Answer Accepted
-  compiled text n =
-      pass (lexed text) λ ls.
-      laid-out ls n
+unfoldable pub compiled : Limits → List ℕ → ℕ → Answer Accepted
+compiled limits text n =
+    pass (lexed (limits .text) (sizes limits) text) λ ls.
+    laid-out (limits .nesting) (limits .declarations) (limits .instructions) ls n
 
 -- ---- what is reported and what the table holds
 

@@ -1,37 +1,93 @@
--- How the code writes lexemes.
+-- How the code writes lexemes: its enums and numbers for those of the definitions.
+use mathlib.Core.List.{List}
+use mathlib.Core.Bool.{Bool}
 use Prim.Native.Nat.{ℕ}
-use Rattle.lexeme.specs.Lexemes.{Fixed, open-round, close-round, open-square, close-square, open-brace, close-brace, comma, dot, becomes, CALL, CLASS, DO, ERROR, FIELDS, IF, INIT, INT, METHOD, NOT, OBJ, PRINTI, PRINTLNS, PRINTS, PROCEDURE, READ, RETURNS, SUBCLASSOF, THEN, USING, WHILE, end}
+use Prim.Native.Char.{code}
+use Rattle.lexeme.specs.Answers.{Answer, given, refused}
+use Rattle.lexeme.specs.Bytes.{separator, letter, letter-or-digit, digit, no-quote}
+use Rattle.lexeme.specs.Lexemes.{Sign, plus, minus, Mul, times, over, Rel, less, greater, equal, Fixed, open-round, close-round, open-square, close-square, open-brace, close-brace, comma, dot, becomes, CALL, CLASS, DO, ERROR, FIELDS, IF, INIT, INT, METHOD, NOT, OBJ, PRINTI, PRINTLNS, PRINTS, PROCEDURE, READ, RETURNS, SUBCLASSOF, THEN, USING, WHILE, end, lit, name, class, string, sign, mul, rel, fixed, Placed, Next, lexeme, nothing}
+use Rattle.lexeme.specs.Lexemes as lexemes
+use Rattle.lexeme.specs.declared.Such.{Such}
+use Rattle.lexeme.specs.declared.Such.the-variants.{Separator, Letter, LetterOrDigit, Digit, NoQuote}
+use Rattle.lexeme.specs.declared.Kind.{Kind}
+use Rattle.lexeme.specs.declared.Kind.the-variants as kind
+use Rattle.lexeme.specs.declared.Lexeme.{Lexeme}
+use Rattle.lexeme.specs.declared.Found.{Found}
+use Rattle.lexeme.specs.declared.Found.the-variants.{Is, End, Refused}
 
--- a symbol's byte, a keyword's place in the alphabet, and 0 for the end
-unfoldable pub fixed-code : Fixed → ℕ
-fixed-code open-round = 40
-fixed-code close-round = 41
-fixed-code open-square = 91
-fixed-code close-square = 93
-fixed-code open-brace = 123
-fixed-code close-brace = 125
-fixed-code comma = 44
-fixed-code dot = 46
-fixed-code becomes = 58
-fixed-code CALL = 1
-fixed-code CLASS = 2
-fixed-code DO = 3
-fixed-code ERROR = 4
-fixed-code FIELDS = 5
-fixed-code IF = 6
-fixed-code INIT = 7
-fixed-code INT = 8
-fixed-code METHOD = 9
-fixed-code NOT = 10
-fixed-code OBJ = 11
-fixed-code PRINTI = 12
-fixed-code PRINTLNS = 13
-fixed-code PRINTS = 14
-fixed-code PROCEDURE = 15
-fixed-code READ = 16
-fixed-code RETURNS = 17
-fixed-code SUBCLASSOF = 18
-fixed-code THEN = 19
-fixed-code USING = 20
-fixed-code WHILE = 21
-fixed-code end = 0
+-- the bytes that a kind of run is made of
+unfoldable pub such : Such → ℕ → Bool
+such Separator = separator
+such Letter = letter
+such LetterOrDigit = letter-or-digit
+such Digit = digit
+such NoQuote = no-quote
+
+-- a symbol is its byte
+unfoldable pub sign-code : Sign → ℕ
+sign-code plus = code "+"
+sign-code minus = code "-"
+
+unfoldable pub mul-code : Mul → ℕ
+mul-code times = code "*"
+mul-code over = code "/"
+
+unfoldable pub rel-code : Rel → ℕ
+rel-code less = code "<"
+rel-code greater = code ">"
+rel-code equal = code "="
+
+-- a symbol's byte, the colon's for `:=`, a keyword's number in alphabetical order, and 0 for the end
+unfoldable pub code-of : Fixed → ℕ
+code-of open-round = code "("
+code-of close-round = code ")"
+code-of open-square = code "["
+code-of close-square = code "]"
+code-of open-brace = code "{"
+code-of close-brace = code "}"
+code-of comma = code ","
+code-of dot = code "."
+code-of becomes = code ":"
+code-of CALL = 1
+code-of CLASS = 2
+code-of DO = 3
+code-of ERROR = 4
+code-of FIELDS = 5
+code-of IF = 6
+code-of INIT = 7
+code-of INT = 8
+code-of METHOD = 9
+code-of NOT = 10
+code-of OBJ = 11
+code-of PRINTI = 12
+code-of PRINTLNS = 13
+code-of PRINTS = 14
+code-of PROCEDURE = 15
+code-of READ = 16
+code-of RETURNS = 17
+code-of SUBCLASSOF = 18
+code-of THEN = 19
+code-of USING = 20
+code-of WHILE = 21
+code-of end = 0
+
+-- the letters of a word and the bytes of a string stand in the text
+unfoldable pub kind-of : lexemes.Lexeme → Kind
+kind-of (lit n) = kind.Literal n
+kind-of (name n) = kind.Name
+kind-of (class n) = kind.Class
+kind-of (string s) = kind.Str
+kind-of (sign s) = kind.Sign (sign-code s)
+kind-of (mul m) = kind.Mul (mul-code m)
+kind-of (rel r) = kind.Rel (rel-code r)
+kind-of (fixed f) = kind.Fixed (code-of f)
+
+unfoldable pub coded : Answer Next → Found
+coded (given (lexeme l e)) = Is (record { kind = kind-of (l .what); place = l .place; end = e })
+coded (given nothing) = End
+coded (refused n p) = Refused n p
+
+-- how a scan ends: at the text's end, or with its leftmost refusal of 2 and 3
+unfoldable pub scanned : Answer (List Placed) → Found
+scanned (given ls) = End
+scanned (refused n p) = Refused n p

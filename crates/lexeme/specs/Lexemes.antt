@@ -5,7 +5,7 @@ use Prim.Native.Nat.{ℕ, zero, suc, _+_, _-_, _*_}
 use Prim.Native.Char.{code}
 use lib.Dec.{leb, ltb, eqb}
 use lib.ListN.{length, drop}
-use Rattle.limits.specs.Limits.{Sizes}
+use Rattle.limits.specs.Limits.{Limits}
 use Rattle.lexeme.specs.Answers.{Answer, given, refused, pass}
 use Rattle.lexeme.specs.Bytes.{bytes, separator, small, letter, digit, letter-or-digit, no-quote, run, all, same}
 
@@ -105,33 +105,46 @@ unfoldable pub value : ℕ → List ℕ → ℕ
 value n [] = n
 value n (b ∷ w) = value (n * 10 + (b - 48)) w
 
-module _ (sizes : Sizes) where
-  unfoldable pub letter-word : ℕ → List ℕ → Answer Next
-  letter-word p w =
-      cond (ltb (sizes .word) (length w)) (refused 3 p)
-      (found p (cond (starts-small w) (name (record { letters = w; place = p })) (capital-word keywords p w)) (p + length w))
+-- the limits of refusal 3
+pub record Sizes : Type 0 where
+  -- letters of a letter word
+  pub word : ℕ
+  -- bytes between a string's quotes
+  pub string : ℕ
+  -- the value of a literal
+  pub literal : ℕ
 
-  unfoldable pub digit-word : ℕ → List ℕ → Answer Next
-  digit-word p w =
-      cond (ltb (sizes .literal) (value 0 w)) (refused 3 p)
-      (found p (lit (value 0 w)) (p + length w))
+abbrev pub sizes : Limits → Sizes
+sizes lim = record { word = lim .word; string = lim .string; literal = lim .literal }
 
-  -- a word at the place p: all letters, or all digits; a mixed word is refused
-  unfoldable pub word : ℕ → List ℕ → Answer Next
-  word p w =
-      cond (all letter w) (letter-word p w)
-      (cond (all digit w) (digit-word p w)
-      (refused 2 p))
+-- a letter word at the place p, with the most letters that it may have
+unfoldable pub letter-word : ℕ → ℕ → List ℕ → Answer Next
+letter-word most p w =
+    cond (ltb most (length w)) (refused 3 p)
+    (found p (cond (starts-small w) (name (record { letters = w; place = p })) (capital-word keywords p w)) (p + length w))
 
-  -- ---- strings and symbols
+-- a digit word at the place p, with the most that it may be worth
+unfoldable pub digit-word : ℕ → ℕ → List ℕ → Answer Next
+digit-word most p w =
+    cond (ltb most (value 0 w)) (refused 3 p)
+    (found p (lit (value 0 w)) (p + length w))
 
-  -- a string whose opening quote is at p, where s follows the quote
-  unfoldable pub string-at : ℕ → List ℕ → Answer Next
-  string-at p s =
-      let inside = run no-quote s in
-      cond (leb (length s) (length inside)) (refused 2 p)
-      (cond (ltb (sizes .string) (length inside)) (refused 3 p)
-      (found p (string (record { inside = inside; place = p + 1 })) (p + length inside + 2)))
+-- a word at the place p: all letters, or all digits; a mixed word is refused
+unfoldable pub word : Sizes → ℕ → List ℕ → Answer Next
+word most p w =
+    cond (all letter w) (letter-word (most .word) p w)
+    (cond (all digit w) (digit-word (most .literal) p w)
+    (refused 2 p))
+
+-- ---- strings and symbols
+
+-- a string whose opening quote is at p, where s follows the quote, with the most bytes that may stand between its quotes
+unfoldable pub string-at : ℕ → ℕ → List ℕ → Answer Next
+string-at most p s =
+    let inside = run no-quote s in
+    cond (leb (length s) (length inside)) (refused 2 p)
+    (cond (ltb most (length inside)) (refused 3 p)
+    (found p (string (record { inside = inside; place = p + 1 })) (p + length inside + 2)))
 
 pub record Symbol : Type 0 where
   pub byte : ℕ
@@ -169,13 +182,13 @@ colon p (b ∷ s) = cond (eqb b 61) (found p (fixed becomes) (p + 2)) (refused 2
 
 -- ---- a whole text
 
-module _ (sizes : Sizes) where
+module _ (most : Sizes) where
   -- what begins at the place p, where no separator stands
   unfoldable pub here : ℕ → List ℕ → Answer Next
   here p [] = given nothing
   here p (b ∷ s) =
-      cond (letter-or-digit b) (word sizes p (run letter-or-digit (b ∷ s)))
-      (cond (eqb b 34) (string-at sizes p s)
+      cond (letter-or-digit b) (word most p (run letter-or-digit (b ∷ s)))
+      (cond (eqb b 34) (string-at (most .string) p s)
       (cond (eqb b 58) (colon p s)
       (symbol symbols p b)))
 
@@ -185,11 +198,11 @@ module _ (sizes : Sizes) where
 
 -- ---- all lexemes of a text, or its leftmost refusal of 2 and 3
 
-module _ (sizes : Sizes) (text : List ℕ) where
+module _ (most : Sizes) (text : List ℕ) where
   -- from a place on, with more fuel than bytes left
   unfoldable pub lexemes-from : ℕ → ℕ → Answer (List Placed)
   lexemes-from zero at = given []
-  lexemes-from (suc fuel) at = pass (next sizes text at) λ n. elim n [
+  lexemes-from (suc fuel) at = pass (next most text at) λ n. elim n [
     | lexeme l e ↦ pass (lexemes-from fuel e) (λ ls. given (l ∷ ls))
     | nothing ↦ given (record { place = length text; what = fixed end } ∷ [])
   ]

@@ -1,4 +1,4 @@
 pub mod Answers
 pub mod Bytes
-pub mod Lexemes
 pub mod Coded
+pub mod Lexemes

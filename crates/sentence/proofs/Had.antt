@@ -16,7 +16,7 @@ use Rattle.sentence.specs.Reader.{Around, in-first, in-multiply, in-unsi
 use Rattle.sentence.specs.Reader.{State, want-DO, want-factor, want-expression, want-condition, want-command, want-line, want-string, want-declared, want-read, want-becomes, got-term, got-command, whole, nowhere}
 use Rattle.sentence.specs.Reader.{is, on, on-lit, on-name, on-string, on-sign, on-mul, on-rel}
 use Rattle.sentence.specs.Reader.{Verdict, verdict, goes-on, is-whole, begins-none}
-use Rattle.sentence.proofs.Codes.{code-of-injective}
+use Rattle.lexeme.proofs.Decoded.{code-of-injective}
 use Rattle.sentence.proofs.Walk.{nested-at}
 
 -- ---- what a state has read

@@ -1,0 +1,6 @@
+pub mod Decoded
+pub mod Places
+pub mod Runs
+pub mod Scans
+pub mod Symbols
+pub mod Words

@@ -1,0 +1,109 @@
+-- Laws of words and strings, each at the place where a loop or a test stands. Assumes nothing.
+use mathlib.Core.Path.{_≡_, refl, sym, ap, _∙_}
+use mathlib.Core.List.{List, [], _∷_}
+use mathlib.Core.Bool.{Bool, true, false}
+use Prim.Native.Nat.{ℕ, suc, _+_, _-_, _*_, _≤_, _<_}
+use native.Mathlib.Nat.{le-refl}
+use native.Mathlib.Numerals.{add-one}
+use native.Mathlib.Omega.{arith}
+use lib.Dec.{eqb}
+use lib.ListN.{length, getD, drop, drop-of-length-le, length-drop}
+use lib.Seq.{drop-cons}
+use borrow.Author.Tests.{eq-eqb, ne-eqb, le-leb, lt-leb, lt-ltb, le-ltb}
+use Rattle.lexeme.specs.Answers.{refused}
+use Rattle.lexeme.specs.Bytes.{small, no-quote, run, same}
+use Rattle.lexeme.specs.Lexemes.{value, Keyword, fixed, capital-word, starts-small, string, string-at, found}
+use Rattle.lexeme.specs.Coded.{code-of, kind-of}
+use Rattle.lexeme.specs.declared.Kind.{Kind}
+use Rattle.lexeme.specs.declared.Kind.the-variants.{Fixed}
+
+-- two words after the test of their first bytes
+abbrev after : List ℕ → List ℕ → Bool → Bool
+after a b t = elim t [ true ↦ same a b | false ↦ false ]
+
+module _ (a b : List ℕ) (i : ℕ) where
+  same-first : i < length a → i < length b → same (drop i a) (drop i b) ≡ after (drop (i + 1) a) (drop (i + 1) b) (eqb (getD a i 0) (getD b i 0))
+  unfolding same
+  same-first p q = rw (drop-cons a i 0, drop-cons b i 0, add-one)
+
+  pub same-on : i < length a → i < length b → getD a i 0 ≡ getD b i 0 → same (drop (i + 1) a) (drop (i + 1) b) ≡ same (drop i a) (drop i b)
+  same-on p q e = sym (same-first p q ∙ ap (after (drop (i + 1) a) (drop (i + 1) b)) (eq-eqb (getD a i 0) (getD b i 0) e))
+
+  pub same-stop : i < length a → i < length b → (getD a i 0 ≡ getD b i 0 → ⊥) → false ≡ same (drop i a) (drop i b)
+  same-stop p q e = sym (same-first p q ∙ ap (after (drop (i + 1) a) (drop (i + 1) b)) (ne-eqb (getD a i 0) (getD b i 0) e))
+
+  pub same-out : length a ≤ i → length b ≤ i → true ≡ same (drop i a) (drop i b)
+  unfolding same
+  same-out p q = rw (drop-of-length-le a p, drop-of-length-le b q)
+
+pub same-long : (a b : List ℕ) → (length a ≡ length b → ⊥) → false ≡ same a b
+unfolding same
+same-long [] [] n = absurd (n refl)
+same-long [] (y ∷ b) n = refl
+same-long (x ∷ a) [] n = refl
+same-long (x ∷ a) (y ∷ b) n = by-test (same-long a b (λ e. n (ap suc e))) (eqb x y)
+  where
+    by-test : false ≡ same a b → (t : Bool) → false ≡ after a b t
+    by-test e true = e
+    by-test e false = refl
+
+pub value-on : (n : ℕ) (w : List ℕ) (i : ℕ) → i < length w → value (n * 10 + (getD w i 0 - 48)) (drop (i + 1) w) ≡ value n (drop i w)
+unfolding value
+value-on n w i p = rw (drop-cons w i 0, add-one)
+
+pub value-out : (n : ℕ) (w : List ℕ) (i : ℕ) → length w ≤ i → value n (drop i w) ≡ n
+unfolding value
+value-out n w i p = rw (drop-of-length-le w p)
+
+-- further digits only add
+pub value-grows : (n : ℕ) (w : List ℕ) → n ≤ value n w
+unfolding value
+value-grows n [] = le-refl n
+value-grows n (b ∷ w) = omega (arith, value-grows (n * 10 + (b - 48)) w)
+
+-- the keyword k, of those that are left, is the word w, or is not
+module _ (k : Keyword) (ks : List Keyword) (w : List ℕ) (p : ℕ) {r : Bool} (tested : r ≡ same w (k .spelled)) where
+  abbrev after-test : Bool → Kind
+  after-test t = kind-of (elim t [ true ↦ fixed (k .means) | false ↦ capital-word ks p w ])
+
+  pub keyword-hit : r ≡ true → Fixed (code-of (k .means)) ≡ kind-of (capital-word (k ∷ ks) p w)
+  unfolding capital-word kind-of
+  keyword-hit h = ap after-test (sym h ∙ tested)
+
+  pub keyword-miss : r ≡ false → kind-of (capital-word ks p w) ≡ kind-of (capital-word (k ∷ ks) p w)
+  unfolding capital-word
+  keyword-miss h = ap after-test (sym h ∙ tested)
+
+-- the first n of the keywords ks are not the word
+abbrev pub Left : List Keyword → ℕ → ℕ → List ℕ → Type 0
+Left ks n p w = kind-of (capital-word (drop n ks) p w) ≡ kind-of (capital-word ks p w)
+
+pub starts-empty : (w : List ℕ) → length w ≡ 0 → false ≡ starts-small w
+unfolding starts-small
+starts-empty [] e = refl
+starts-empty (b ∷ w) e = absurd (omega arith)
+
+pub starts-first : (w : List ℕ) → (length w ≡ 0 → ⊥) → starts-small w ≡ small (getD w 0 0)
+unfolding starts-small
+starts-first [] n = absurd (n refl)
+starts-first (b ∷ w) n = refl
+
+-- a string whose opening quote is at p, where e is the place of the next quote, or the text's length
+module _ (most : ℕ) (text : List ℕ) (p e : ℕ) (run-ends : e ≡ p + 1 + length (run no-quote (drop (p + 1) text))) where
+  abbrev inside : List ℕ
+  inside = run no-quote (drop (p + 1) text)
+
+  pub string-open : length text ≤ e → refused 2 p ≡ string-at most p (drop (p + 1) text)
+  unfolding string-at
+  string-open h = rw (le-leb (length (drop (p + 1) text)) (length inside) (omega (arith, length-drop (p + 1) text)))
+
+  module _ (closed : e < length text) where
+    pub string-long : most < e - (p + 1) → refused 3 p ≡ string-at most p (drop (p + 1) text)
+    unfolding string-at
+    string-long h = rw (lt-leb (length (drop (p + 1) text)) (length inside) (omega (arith, length-drop (p + 1) text)), lt-ltb most (length inside) (omega arith))
+
+    pub string-fits : e - (p + 1) ≤ most → found p (string (record { inside = inside; place = p + 1 })) (e + 1) ≡ string-at most p (drop (p + 1) text)
+    unfolding string-at
+    string-fits h =
+        let ends : e + 1 ≡ p + length inside + 2 = omega arith in
+        rw (lt-leb (length (drop (p + 1) text)) (length inside) (omega (arith, length-drop (p + 1) text)), le-ltb most (length inside) (omega arith), ends)

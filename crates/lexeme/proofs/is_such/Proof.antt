@@ -1,0 +1,81 @@
+-- `lexeme::is_such` meets its contract. Assumes nothing.
+use Rattle.lexeme.specs.Bytes.{letter-or-digit, no-quote}
+use Rattle.lexeme.specs.Coded.{such}
+use borrow.Author.Needs.{needs}
+use Rattle.lexeme.proofs.is_such.Statement.{statement}
+use Rattle.lexeme.proofs.is_such.Tie as tie
+
+enum-told : tie.Need-enum-told
+enum-told c = search needs
+
+is-separator-requires : tie.Need-is-separator-requires
+is-separator-requires c κs = search needs
+
+enum-told-2 : tie.Need-enum-told-2
+enum-told-2 c = search needs
+
+is-letter-requires : tie.Need-is-letter-requires
+is-letter-requires c κs = search needs
+
+enum-told-3 : tie.Need-enum-told-3
+enum-told-3 c = search needs
+
+is-letter-requires-2 : tie.Need-is-letter-requires-2
+is-letter-requires-2 c κs = search needs
+
+is-digit-requires : tie.Need-is-digit-requires
+is-digit-requires c κs = search needs
+
+enum-told-4 : tie.Need-enum-told-4
+enum-told-4 c = search needs
+
+is-digit-requires-2 : tie.Need-is-digit-requires-2
+is-digit-requires-2 c κs = search needs
+
+enum-told-5 : tie.Need-enum-told-5
+enum-told-5 c = search needs
+
+returns : tie.Need-returns
+unfolding such letter-or-digit no-quote
+returns c = rw (c .before .enum-told .given .1) (c .is-separator .ensures)
+
+returns-2 : tie.Need-returns-2
+unfolding such letter-or-digit no-quote
+returns-2 c = rw (c .before .enum-told2 .given .1) (c .is-letter .ensures)
+
+returns-3 : tie.Need-returns-3
+unfolding such letter-or-digit no-quote
+returns-3 c = rw (c .before .before .enum-told3 .given .1, ← c .before .is-letter2 .ensures, c .if1 .taken)
+
+returns-4 : tie.Need-returns-4
+unfolding such letter-or-digit no-quote
+returns-4 c = rw (c .before .before .before .enum-told3 .given .1, ← c .before .before .is-letter2 .ensures, c .before .if1 .left) (c .is-digit .ensures)
+
+returns-5 : tie.Need-returns-5
+unfolding such letter-or-digit no-quote
+returns-5 c = rw (c .before .enum-told4 .given .1) (c .is-digit2 .ensures)
+
+returns-6 : tie.Need-returns-6
+unfolding such letter-or-digit no-quote
+returns-6 c = rw (c .enum-told5 .given .1)
+
+pub is-such-spec : {M : Type 1} → statement M
+is-such-spec =
+    tie.close
+    (tie.spec
+    enum-told
+    is-separator-requires
+    enum-told-2
+    is-letter-requires
+    enum-told-3
+    is-letter-requires-2
+    is-digit-requires
+    enum-told-4
+    is-digit-requires-2
+    enum-told-5
+    returns
+    returns-2
+    returns-3
+    returns-4
+    returns-5
+    returns-6)

@@ -1,0 +1,95 @@
+-- `lexeme::next` meets its contract. Assumes nothing.
+use mathlib.Core.Path.{_≡_, sym, ap, _∙_}
+use native.Mathlib.Omega.{arith}
+use borrow.Author.Tests.{ne-eqb}
+use denote.Ref.{now}
+use lib.ListN.{getD, drop, length-drop}
+use Rattle.lexeme.specs.Bytes.{letter-or-digit}
+use Rattle.lexeme.specs.Lexemes.{Sizes, next}
+use Rattle.lexeme.specs.Coded.{such, coded}
+use Rattle.lexeme.proofs.Runs.{run-part, run-fits}
+use Rattle.lexeme.proofs.Places.{here-end, here-word, here-other, other}
+use borrow.Author.Needs.{needs}
+use Rattle.lexeme.proofs.next.Statement.{statement}
+use Rattle.lexeme.proofs.next.Tie as tie
+
+run-end-requires : tie.Need-run-end-requires
+run-end-requires c κs = search needs
+
+returns : tie.Need-returns
+unfolding next such coded
+returns c = rw (← c .before .run-end .ensures) (ap coded (here-end _ _ _ (c .if1 .taken)))
+
+shared-slice-read-b : tie.Need-shared-slice-read-b
+shared-slice-read-b c = search needs
+
+is-such-requires : tie.Need-is-such-requires
+is-such-requires c κs = search needs
+
+run-end-requires-2 : tie.Need-run-end-requires-2
+run-end-requires-2 c κs = search needs
+
+sub-word-at : tie.Need-sub-word-at
+sub-word-at c = search needs
+
+part-word-at-start : tie.Need-part-word-at-start
+part-word-at-start c = search needs
+
+part-word-at-end : tie.Need-part-word-at-end
+unfolding such
+part-word-at-end c = omega (arith, c .run-end2 .ensures, run-fits letter-or-digit (drop (c .before .before .before .before .before .run-end .result) (now (c .before .before .before .before .before .before .before .args .text))), length-drop (c .before .before .before .before .before .run-end .result) (now (c .before .before .before .before .before .before .before .args .text)))
+
+word-at-requires : tie.Need-word-at-requires
+word-at-requires c κs = search needs
+
+returns-2 : tie.Need-returns-2
+unfolding next such
+returns-2 c = rw (← c .before .before .before .before .before .before .before .run-end .ensures, here-word _ (now (c .before .before .before .before .before .before .before .before .before .args .text)) (c .before .before .before .before .before .before .before .run-end .result) (omega arith) (sym (c .before .before .before .before .is-such .ensures) ∙ c .before .before .before .if2 .taken), ← run-part letter-or-digit (now (c .before .before .before .before .before .before .before .before .before .args .text)) (c .before .before .before .before .before .before .before .run-end .result) _ (c .before .before .run-end2 .ensures)) (c .word-at .ensures)
+
+-- at a byte that is no letter and no digit
+at-other : (c : tie.Else2) (most : Sizes) → next most (now (c .before .before .before .before .before .before .args .text)) (c .before .before .before .before .before .before .args .at) ≡ other most (now (c .before .before .before .before .before .before .args .text)) (c .before .before .before .before .run-end .result) (getD (now (c .before .before .before .before .before .before .args .text)) (c .before .before .before .before .run-end .result) 0)
+unfolding next such
+at-other c most = rw (← c .before .before .before .before .run-end .ensures) (here-other most _ _ (omega arith) (sym (c .before .is-such .ensures) ∙ c .if2 .left))
+
+string-at-requires : tie.Need-string-at-requires
+string-at-requires c κs = search needs
+
+colon-at-requires : tie.Need-colon-at-requires
+colon-at-requires c κs = search needs
+
+add-symbol-at : tie.Need-add-symbol-at
+add-symbol-at c = search needs
+
+symbol-at-requires : tie.Need-symbol-at-requires
+symbol-at-requires c κs = search needs
+
+returns-3 : tie.Need-returns-3
+returns-3 c = rw (at-other (c .before .before) _, c .before .match .keys1) (c .string-at .ensures)
+
+returns-4 : tie.Need-returns-4
+returns-4 c = rw (at-other (c .before .before) _, c .before .match .keys2) (c .colon-at .ensures)
+
+returns-5 : tie.Need-returns-5
+returns-5 c = rw (at-other (c .before .before) _, ne-eqb _ 34 (c .before .match .rest .0 .1), ne-eqb _ 58 (c .before .match .rest .1)) (c .symbol-at .ensures)
+
+pub next-spec : {M : Type 1} → statement M
+next-spec =
+    tie.close
+    (tie.spec
+    run-end-requires
+    returns
+    shared-slice-read-b
+    is-such-requires
+    run-end-requires-2
+    sub-word-at
+    part-word-at-start
+    part-word-at-end
+    word-at-requires
+    returns-2
+    string-at-requires
+    colon-at-requires
+    add-symbol-at
+    symbol-at-requires
+    returns-3
+    returns-4
+    returns-5)
