@@ -8,7 +8,7 @@ use denote.Enum.Declared.{tagOf}
 use lib.ListN.{length}
 use Rattle.lexeme.specs.Answers.{Answer, given, refused, pass}
 use Rattle.lexeme.specs.Lexemes.{Placed, Next, lexeme, nothing, fixed, end, Sizes, next}
-use Rattle.lexeme.specs.Coded.{kind-of, fixed-code, coded}
+use Rattle.lexeme.specs.Coded.{kind-of, code-of, coded}
 use Rattle.lexeme.specs.declared.Lexeme as code
 use Rattle.lexeme.specs.declared.Kind.the-variants as kind
 use Rattle.lexeme.specs.declared.Found.{Found}
@@ -86,7 +86,7 @@ module _ (most : Sizes) (text : List ℕ) (at : ℕ) (clean : Clean most text at
 
   -- where nothing more is found, the end stands there
   pub looks-end : (r : Found) → r ≡ coded (next most text at) → OneOf (1 ∷ 2 ∷ []) (tagOf the-type r) → Looks text at (record { kind = kind.Fixed 0; place = length text; end = length text })
-  unfolding Looks coded kind-of fixed-code
+  unfolding Looks coded kind-of code-of
   looks-end (Is x) h t = absurd (miss (1 ∷ 2 ∷ []) 0 tt t)
   looks-end End h t = λ sizes ls lexes. by-step sizes ls (lexes-step sizes text at ls lexes)
     where

@@ -1,16 +1,17 @@
 -- What the code's numbers and kinds stand for: the way back from `specs/Coded.antt`, so that equal codes mean equal lexemes. Assumes nothing.
 use mathlib.Core.Path.{_≡_, refl, sym, ap, _∙_}
 use mathlib.Core.List.{List, [], _∷_}
-use mathlib.Core.Bool.{Bool, true, false, cond}
+use mathlib.Core.Bool.{true, false, cond}
 use Prim.Native.Nat.{ℕ, _+_, _-_}
 use Prim.Native.Char.{code}
 use lib.Dec.{eqb}
 use lib.ListN.{take, drop}
 use Rattle.lexeme.specs.Lexemes.{Sign, plus, minus, Mul, times, over, Rel, less, greater, equal, Fixed, open-round, close-round, open-square, close-square, open-brace, close-brace, comma, dot, becomes, CALL, CLASS, DO, ERROR, FIELDS, IF, INIT, INT, METHOD, NOT, OBJ, PRINTI, PRINTLNS, PRINTS, PROCEDURE, READ, RETURNS, SUBCLASSOF, THEN, USING, WHILE, end, lit, name, class, string, sign, mul, rel, fixed}
 use Rattle.lexeme.specs.Lexemes as lexemes
-use Rattle.lexeme.specs.Coded.{sign-code, mul-code, rel-code, fixed-code}
+use Rattle.lexeme.specs.Coded.{sign-code, mul-code, rel-code, code-of}
 use Rattle.lexeme.specs.declared.Kind.{Kind}
 use Rattle.lexeme.specs.declared.Kind.the-variants as kind
+use Rattle.lexeme.specs.declared.Lexeme.{Lexeme}
 
 -- a map that can be undone is injective
 from-back : {A : Type 0} (f : A → ℕ) (back : ℕ → A) → ((a : A) → back (f a) ≡ a) → (a b : A) → f a ≡ f b → a ≡ b
@@ -46,13 +47,13 @@ fixeds = open-round ∷ close-round ∷ open-square ∷ close-square ∷ open-br
 
 unfoldable pub fixed-in : List Fixed → ℕ → Fixed
 fixed-in [] n = end
-fixed-in (f ∷ fs) n = elim (eqb n (fixed-code f)) [ true ↦ f | false ↦ fixed-in fs n ]
+fixed-in (f ∷ fs) n = elim (eqb n (code-of f)) [ true ↦ f | false ↦ fixed-in fs n ]
 
 unfoldable pub fixed-of : ℕ → Fixed
 fixed-of = fixed-in fixeds
 
-pub fixed-back : (f : Fixed) → fixed-of (fixed-code f) ≡ f
-unfolding fixed-of fixed-in fixeds fixed-code
+pub fixed-back : (f : Fixed) → fixed-of (code-of f) ≡ f
+unfolding fixed-of fixed-in fixeds code-of
 fixed-back open-round = refl
 fixed-back close-round = refl
 fixed-back open-square = refl
@@ -94,8 +95,8 @@ mul-injective = from-back mul-code mul-of mul-back
 pub rel-injective : (r q : Rel) → rel-code r ≡ rel-code q → r ≡ q
 rel-injective = from-back rel-code rel-of rel-back
 
-pub fixed-injective : (f g : Fixed) → fixed-code f ≡ fixed-code g → f ≡ g
-fixed-injective = from-back fixed-code fixed-of fixed-back
+pub code-of-injective : (f g : Fixed) → code-of f ≡ code-of g → f ≡ g
+code-of-injective = from-back code-of fixed-of fixed-back
 
 -- the lexeme of a kind that stands from the place p up to e, where s is the text from p on
 unfoldable pub what-of : List ℕ → ℕ → ℕ → Kind → lexemes.Lexeme
@@ -107,3 +108,7 @@ what-of s p e (kind.Sign n) = sign (sign-of n)
 what-of s p e (kind.Mul n) = mul (mul-of n)
 what-of s p e (kind.Rel n) = rel (rel-of n)
 what-of s p e (kind.Fixed n) = fixed (fixed-of n)
+
+-- the code's lexeme, read in the text
+abbrev pub placed-of : List ℕ → Lexeme → lexemes.Placed
+placed-of text x = record { place = x .place; what = what-of (drop (x .place) text) (x .place) (x .end) (x .kind) }

@@ -2,7 +2,7 @@
 use mathlib.Core.Path.{_≡_, refl, sym, subst, ap, _∙_}
 use mathlib.Core.List.{List, [], _∷_}
 use mathlib.Core.Bool.{Bool, true, false, cond}
-use Prim.Native.Nat.{ℕ, suc, _+_, _-_, _≤_, _<_}
+use Prim.Native.Nat.{ℕ, _+_, _-_, _≤_, _<_}
 use native.Mathlib.Numerals.{add-one}
 use native.Mathlib.Omega.{arith}
 use borrow.Author.Tests.{leb-false}
@@ -12,11 +12,11 @@ use lib.Seq.{drop-cons}
 use Rattle.lexeme.specs.Answers.{Answer, given, refused}
 use Rattle.lexeme.specs.Bytes.{separator, letter, digit, letter-or-digit, no-quote, run, all, same}
 use Rattle.lexeme.specs.Lexemes.{Lexeme, name, class, string, fixed, becomes, Placed, Next, lexeme, nothing, found, Keyword, keywords, capital-word, starts-small, value, Sizes, letter-word, digit-word, word, string-at, Symbol, symbols, symbol, colon, here, next}
-use Rattle.lexeme.specs.Coded.{kind-of, coded, sign-code, mul-code, rel-code, fixed-code}
+use Rattle.lexeme.specs.Coded.{kind-of, coded, sign-code, mul-code, rel-code, code-of}
 use Rattle.lexeme.specs.declared.Lexeme as coded-lexeme
 use Rattle.lexeme.specs.declared.Found.{Found}
 use Rattle.lexeme.specs.declared.Found.the-variants.{Is, End, Refused}
-use Rattle.lexeme.proofs.Decoded.{what-of, sign-of, mul-of, rel-of, fixed-of, fixed-in, fixeds, fixed-back}
+use Rattle.lexeme.proofs.Decoded.{what-of, placed-of, sign-of, mul-of, rel-of, fixed-of, fixed-in, fixeds, fixed-back}
 use Rattle.lexeme.proofs.Runs.{run-take, run-yes, run-fits}
 use Rattle.lexeme.proofs.Symbols.{Each, nil, _also_}
 
@@ -25,15 +25,19 @@ module _ (most : Sizes) (text : List ℕ) (p : ℕ) where
   unfolding here
   here-end h = rw (drop-of-length-le text h)
 
+  -- what a byte that is no letter and no digit begins
+  abbrev pub other : ℕ → Answer Next
+  other b =
+      cond (eqb b 34) (string-at (most .string) p (drop (p + 1) text))
+      (cond (eqb b 58) (colon p (drop (p + 1) text))
+      (symbol symbols p b))
+
   module _ (h : p < length text) where
     pub here-word : letter-or-digit (getD text p 0) ≡ true → here most p (drop p text) ≡ word most p (run letter-or-digit (drop p text))
     unfolding here
     here-word t = rw (drop-cons text p 0 h, t)
 
-    pub here-other : letter-or-digit (getD text p 0) ≡ false
-        → here most p (drop p text)
-        ≡ cond (eqb (getD text p 0) 34) (string-at (most .string) p (drop (p + 1) text))
-        (cond (eqb (getD text p 0) 58) (colon p (drop (p + 1) text)) (symbol symbols p (getD text p 0)))
+    pub here-other : letter-or-digit (getD text p 0) ≡ false → here most p (drop p text) ≡ other (getD text p 0)
     unfolding here
     here-other t = rw (drop-cons text p 0 h, t, add-one)
 
@@ -118,7 +122,7 @@ symbol-good p b s (_also_ {a = y} {rest = ys} h hs) = by-byte (symbol-good p b s
     by-byte later false = later
 
 here-good : (most : Sizes) (p : ℕ) (s : List ℕ) → Good p s (here most p s)
-unfolding here symbols what-of kind-of sign-code sign-of mul-code mul-of rel-code rel-of fixed-code fixed-of fixed-in fixeds
+unfolding here symbols what-of kind-of sign-code sign-of mul-code mul-of rel-code rel-of code-of fixed-of fixed-in fixeds
 here-good most p [] = tt
 here-good most p (b ∷ s) =
     let w = run letter-or-digit (b ∷ s) in
@@ -151,22 +155,26 @@ module _ (most : Sizes) (text : List ℕ) (at : ℕ) where
       }
 
   -- the code's lexeme says which one stands in the text
-  pub next-is : (x : coded-lexeme.Lexeme) → Is x ≡ coded (next most text at)
-      → next most text at ≡ given (lexeme (record { place = x .place; what = what-of (drop (x .place) text) (x .place) (x .end) (x .kind) }) (x .end))
+  pub next-is : (x : coded-lexeme.Lexeme) → Is x ≡ coded (next most text at) → next most text at ≡ given (lexeme (placed-of text x) (x .end))
   unfolding coded
   next-is x h = by-answer (next most text at) refl h
     where
-      by-answer : (a : Answer Next) → next most text at ≡ a → Is x ≡ coded a
-          → a ≡ given (lexeme (record { place = x .place; what = what-of (drop (x .place) text) (x .place) (x .end) (x .kind) }) (x .end))
+      by-answer : (a : Answer Next) → next most text at ≡ a → Is x ≡ coded a → a ≡ given (lexeme (placed-of text x) (x .end))
       by-answer (given (lexeme l e)) n i =
           let m : x ≡ record { kind = kind-of (l .what); place = l .place; end = e } = cc in
           rw (m, next-stands l e n .reads)
-      by-answer (given nothing) n i = let z : _≡_ {A = ℕ} 0 1 = cc in absurd (omega arith)
-      by-answer (refused k q) n i = let z : _≡_ {A = ℕ} 0 1 = cc in absurd (omega arith)
+      by-answer (given nothing) n i = cc
+      by-answer (refused k q) n i = cc
 
-  pub found-stands : (x : coded-lexeme.Lexeme) → Is x ≡ coded (next most text at)
-      → Stands text at (record { place = x .place; what = what-of (drop (x .place) text) (x .place) (x .end) (x .kind) }) (x .end)
-  found-stands x h = next-stands _ _ (next-is x h)
+  pub found-stands : (x : coded-lexeme.Lexeme) → Is x ≡ coded (next most text at) → Stands text at (placed-of text x) (x .end)
+  found-stands x h = next-stands (placed-of text x) (x .end) (next-is x h)
+
+  -- its kind is the code of that lexeme, so that two kinds differ where the lexemes do
+  pub found-kind : (x : coded-lexeme.Lexeme) → Is x ≡ coded (next most text at) → x .kind ≡ kind-of (placed-of text x .what)
+  unfolding coded
+  found-kind x h =
+      let m : x ≡ record { kind = kind-of (placed-of text x .what); place = x .place; end = x .end } = cc (h ∙ ap coded (next-is x h)) in
+      ap (λ (y : coded-lexeme.Lexeme). y .kind) m
 
 pub coded-end : (a : Answer Next) → End ≡ coded a → a ≡ given nothing
 unfolding coded

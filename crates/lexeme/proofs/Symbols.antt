@@ -8,8 +8,8 @@ use native.Mathlib.Nat.{eq-or-lt-of-le}
 use native.Mathlib.Omega.{arith}
 use borrow.Author.Tests.{ne-eqb}
 use types.Run.{OneOf}
-use Rattle.lexeme.specs.Answers.{Answer, refused}
-use Rattle.lexeme.specs.Lexemes.{Next, Symbol, symbol, found}
+use Rattle.lexeme.specs.Answers.{refused}
+use Rattle.lexeme.specs.Lexemes.{Symbol, symbol, found}
 
 -- what holds of each element of a list
 infixr 5 _also_

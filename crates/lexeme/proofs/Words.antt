@@ -1,18 +1,19 @@
--- Laws of words, each at the place where a loop or a test stands. Assumes nothing.
+-- Laws of words and strings, each at the place where a loop or a test stands. Assumes nothing.
 use mathlib.Core.Path.{_≡_, refl, sym, ap, _∙_}
 use mathlib.Core.List.{List, [], _∷_}
 use mathlib.Core.Bool.{Bool, true, false}
-use Prim.Native.Nat.{ℕ, zero, suc, _+_, _-_, _*_, _≤_, _<_}
+use Prim.Native.Nat.{ℕ, suc, _+_, _-_, _*_, _≤_, _<_}
 use native.Mathlib.Nat.{le-refl}
 use native.Mathlib.Numerals.{add-one}
 use native.Mathlib.Omega.{arith}
 use lib.Dec.{eqb}
-use lib.ListN.{length, getD, drop, drop-of-length-le}
+use lib.ListN.{length, getD, drop, drop-of-length-le, length-drop}
 use lib.Seq.{drop-cons}
-use borrow.Author.Tests.{eq-eqb, ne-eqb}
-use Rattle.lexeme.specs.Bytes.{small, same}
-use Rattle.lexeme.specs.Lexemes.{value, Keyword, fixed, capital-word, starts-small}
-use Rattle.lexeme.specs.Coded.{fixed-code, kind-of}
+use borrow.Author.Tests.{eq-eqb, ne-eqb, le-leb, lt-leb, lt-ltb, le-ltb}
+use Rattle.lexeme.specs.Answers.{refused}
+use Rattle.lexeme.specs.Bytes.{small, no-quote, run, same}
+use Rattle.lexeme.specs.Lexemes.{value, Keyword, fixed, capital-word, starts-small, string, string-at, found}
+use Rattle.lexeme.specs.Coded.{code-of, kind-of}
 use Rattle.lexeme.specs.declared.Kind.{Kind}
 use Rattle.lexeme.specs.declared.Kind.the-variants.{Fixed}
 
@@ -65,7 +66,7 @@ module _ (k : Keyword) (ks : List Keyword) (w : List ℕ) (p : ℕ) {r : Bool} (
   abbrev after-test : Bool → Kind
   after-test t = kind-of (elim t [ true ↦ fixed (k .means) | false ↦ capital-word ks p w ])
 
-  pub keyword-hit : r ≡ true → Fixed (fixed-code (k .means)) ≡ kind-of (capital-word (k ∷ ks) p w)
+  pub keyword-hit : r ≡ true → Fixed (code-of (k .means)) ≡ kind-of (capital-word (k ∷ ks) p w)
   unfolding capital-word kind-of
   keyword-hit h = ap after-test (sym h ∙ tested)
 
@@ -86,3 +87,23 @@ pub starts-first : (w : List ℕ) → (length w ≡ 0 → ⊥) → starts-small 
 unfolding starts-small
 starts-first [] n = absurd (n refl)
 starts-first (b ∷ w) n = refl
+
+-- a string whose opening quote is at p, where e is the place of the next quote, or the text's length
+module _ (most : ℕ) (text : List ℕ) (p e : ℕ) (run-ends : e ≡ p + 1 + length (run no-quote (drop (p + 1) text))) where
+  abbrev inside : List ℕ
+  inside = run no-quote (drop (p + 1) text)
+
+  pub string-open : length text ≤ e → refused 2 p ≡ string-at most p (drop (p + 1) text)
+  unfolding string-at
+  string-open h = rw (le-leb (length (drop (p + 1) text)) (length inside) (omega (arith, length-drop (p + 1) text)))
+
+  module _ (closed : e < length text) where
+    pub string-long : most < e - (p + 1) → refused 3 p ≡ string-at most p (drop (p + 1) text)
+    unfolding string-at
+    string-long h = rw (lt-leb (length (drop (p + 1) text)) (length inside) (omega (arith, length-drop (p + 1) text)), lt-ltb most (length inside) (omega arith))
+
+    pub string-fits : e - (p + 1) ≤ most → found p (string (record { inside = inside; place = p + 1 })) (e + 1) ≡ string-at most p (drop (p + 1) text)
+    unfolding string-at
+    string-fits h =
+        let ends : e + 1 ≡ p + length inside + 2 = omega arith in
+        rw (lt-leb (length (drop (p + 1) text)) (length inside) (omega (arith, length-drop (p + 1) text)), le-ltb most (length inside) (omega arith), ends)

@@ -37,39 +37,39 @@ rel-code less = code "<"
 rel-code greater = code ">"
 rel-code equal = code "="
 
--- a keyword is its number in alphabetical order
-unfoldable pub fixed-code : Fixed → ℕ
-fixed-code open-round = code "("
-fixed-code close-round = code ")"
-fixed-code open-square = code "["
-fixed-code close-square = code "]"
-fixed-code open-brace = code "{"
-fixed-code close-brace = code "}"
-fixed-code comma = code ","
-fixed-code dot = code "."
-fixed-code becomes = code ":"
-fixed-code CALL = 1
-fixed-code CLASS = 2
-fixed-code DO = 3
-fixed-code ERROR = 4
-fixed-code FIELDS = 5
-fixed-code IF = 6
-fixed-code INIT = 7
-fixed-code INT = 8
-fixed-code METHOD = 9
-fixed-code NOT = 10
-fixed-code OBJ = 11
-fixed-code PRINTI = 12
-fixed-code PRINTLNS = 13
-fixed-code PRINTS = 14
-fixed-code PROCEDURE = 15
-fixed-code READ = 16
-fixed-code RETURNS = 17
-fixed-code SUBCLASSOF = 18
-fixed-code THEN = 19
-fixed-code USING = 20
-fixed-code WHILE = 21
-fixed-code end = 0
+-- a symbol's byte, the colon's for `:=`, a keyword's number in alphabetical order, and 0 for the end
+unfoldable pub code-of : Fixed → ℕ
+code-of open-round = code "("
+code-of close-round = code ")"
+code-of open-square = code "["
+code-of close-square = code "]"
+code-of open-brace = code "{"
+code-of close-brace = code "}"
+code-of comma = code ","
+code-of dot = code "."
+code-of becomes = code ":"
+code-of CALL = 1
+code-of CLASS = 2
+code-of DO = 3
+code-of ERROR = 4
+code-of FIELDS = 5
+code-of IF = 6
+code-of INIT = 7
+code-of INT = 8
+code-of METHOD = 9
+code-of NOT = 10
+code-of OBJ = 11
+code-of PRINTI = 12
+code-of PRINTLNS = 13
+code-of PRINTS = 14
+code-of PROCEDURE = 15
+code-of READ = 16
+code-of RETURNS = 17
+code-of SUBCLASSOF = 18
+code-of THEN = 19
+code-of USING = 20
+code-of WHILE = 21
+code-of end = 0
 
 -- the letters of a word and the bytes of a string stand in the text
 unfoldable pub kind-of : lexemes.Lexeme → Kind
@@ -80,7 +80,7 @@ kind-of (string s) = kind.Str
 kind-of (sign s) = kind.Sign (sign-code s)
 kind-of (mul m) = kind.Mul (mul-code m)
 kind-of (rel r) = kind.Rel (rel-code r)
-kind-of (fixed f) = kind.Fixed (fixed-code f)
+kind-of (fixed f) = kind.Fixed (code-of f)
 
 unfoldable pub coded : Answer Next → Found
 coded (given (lexeme l e)) = Is (record { kind = kind-of (l .what); place = l .place; end = e })

@@ -17,7 +17,7 @@ pub enum Such {
     NoQuote,
 }
 
-// What a lexeme is. Sign, Mul, Rel and a Fixed that is a symbol hold its byte, `:=` that of its colon; a keyword is its number in alphabetical order, from 1.
+// What a lexeme is. A symbol is its byte, `:=` that of its colon, and a keyword its number in alphabetical order, from 1: specs/Coded.antt has the table.
 pub enum Kind {
     Literal(u32),
     Name,
@@ -89,7 +89,7 @@ fn is_such(kind: Such, b: u8) -> bool
     }
 }
 
-// The end of the longest run of such bytes from a place on.
+// The end of the longest run of such bytes from a place on; the place itself where it is past the text.
 pub fn run_end(text: &[u8], at: usize, kind: Such) -> usize
     ensures { λ r. ⌜ r ≡ at + length (run (such kind) (drop at (now (text .entry)))) ⌝ }
 {
@@ -239,7 +239,7 @@ fn letter_word(word: &[u8], p: usize, e: usize) -> Found
     })
 }
 
-// What a byte adds to the value of a digit word.
+// What a digit adds to the value of its word.
 fn worth(b: u8) -> u64
     ensures { λ r. ⌜ r ≡ b - 48 ⌝ }
 {
@@ -371,7 +371,7 @@ pub fn next(text: &[u8], at: usize) -> Found
     }
 }
 
-// Whether a text has a refusal of 2 or 3: the leftmost, or the end.
+// The leftmost refusal of 2 and 3 of a whole text, or the end where there is none.
 pub fn scan(text: &[u8]) -> Found
     ensures { λ r. do ⌜ r ≡ scanned (lexemes (record { word = (← ⟦Limits::WORD⟧ .entry); string = (← ⟦Limits::STRING⟧ .entry); literal = (← ⟦Limits::LITERAL⟧ .entry) }) (now (text .entry))) ⌝ }
 {

@@ -7,7 +7,7 @@ use native.Mathlib.Nat.{le-of-eq}
 use native.Mathlib.Omega.{arith}
 use lib.Dec.{T, eqb}
 use borrow.Author.Tests.{eqb-true}
-use Rattle.lexeme.specs.Coded.{fixed-code}
+use Rattle.lexeme.specs.Coded.{code-of}
 use Rattle.lexeme.specs.Lexemes.{Name, Quoted, Sign, Mul, Rel, Fixed, Lexeme, lit, name, class, string, sign, mul, rel, fixed}
 use Rattle.lexeme.specs.Lexemes.{open-round, open-brace, becomes, DO, IF, INT, NOT, PRINTI, PRINTLNS, PRINTS, READ, THEN, WHILE, end}
 use Rattle.sentence.specs.Sentences.{Kind}
@@ -16,7 +16,7 @@ use Rattle.sentence.specs.Reader.{Around, in-first, in-multiply, in-unsi
 use Rattle.sentence.specs.Reader.{State, want-DO, want-factor, want-expression, want-condition, want-command, want-line, want-string, want-declared, want-read, want-becomes, got-term, got-command, whole, nowhere}
 use Rattle.sentence.specs.Reader.{is, on, on-lit, on-name, on-string, on-sign, on-mul, on-rel}
 use Rattle.sentence.specs.Reader.{Verdict, verdict, goes-on, is-whole, begins-none}
-use Rattle.sentence.proofs.Codes.{fixed-code-injective}
+use Rattle.lexeme.proofs.Decoded.{code-of-injective}
 use Rattle.sentence.proofs.Walk.{nested-at}
 
 -- ---- what a state has read
@@ -117,10 +117,10 @@ module _ {read : List Lexeme} {d : ℕ} where
   by-word w (sign s) h g = g
   by-word w (mul o) h g = g
   by-word w (rel r) h g = g
-  by-word w (fixed v) {s} {t} h g = go (eqb (fixed-code v) (fixed-code w)) refl
+  by-word w (fixed v) {s} {t} h g = go (eqb (code-of v) (code-of w)) refl
     where
-      go : (b : Bool) → eqb (fixed-code v) (fixed-code w) ≡ b → Good read d (cond b s t) (fixed v)
-      go true e = rw (fixed-code-injective v w (eqb-true (fixed-code v) (fixed-code w) e)) h
+      go : (b : Bool) → eqb (code-of v) (code-of w) ≡ b → Good read d (cond b s t) (fixed v)
+      go true e = rw (code-of-injective v w (eqb-true (code-of v) (code-of w) e)) h
       go false e = g
 
   pub by-lit : (l : Lexeme) {f : ℕ → State} {t : State} → ((n : ℕ) → Good read d (f n) (lit n)) → Good read d t l → Good read d (on-lit l f t) l

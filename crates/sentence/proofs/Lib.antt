@@ -1,4 +1,3 @@
-pub mod Codes
 pub mod Walk
 pub mod Had
 pub mod Steps

@@ -8,7 +8,7 @@ use lib.Dec.{T, T-not}
 use lib.ListN.{length}
 use Rattle.lexeme.specs.Answers.{Answer, given, refused}
 use Rattle.lexeme.specs.Lexemes.{Name, Lexeme, Placed, fixed, end}
-use Rattle.lexeme.specs.Coded.{fixed-code}
+use Rattle.lexeme.specs.Coded.{code-of}
 use Rattle.sentence.specs.Sentences.{Sen, command, program-nestings}
 use Rattle.sentence.specs.Grammar.{Whole, Begins, Too-deep, Fault, no-program, too-deep, Faultless, Shallow, whats, Refused}
 use Rattle.sentence.specs.Reader.{State, want-DO, whole, is, step, Verdict, verdict, goes-on, is-whole, begins-none, read}
@@ -164,7 +164,7 @@ module _ (limit : ℕ) where
 
   -- every list of lexemes of a text ends with the end, after which the reader does not go on
   pub refuses : (ls init : List Placed) (p : ℕ) → ls ≡ init ++ record { place = p; what = fixed end } ∷ [] → (n q : ℕ) → (read limit ls ≡ refused n q) ↔ Refused limit ls n q
-  unfolding Answered is fixed-code whats
+  unfolding Answered is code-of whats
   refuses ls init p f n q = (λ e. so n q (rw e at (answer ls)), λ r. back r (read limit ls) (answer ls))
     where
       last : walk want-DO (whats ls) .state ≡ step (walk want-DO (whats init) .state) (fixed end)

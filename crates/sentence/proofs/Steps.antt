@@ -2,7 +2,7 @@
 use mathlib.Core.Path.{_≡_, refl, _∙_}
 use mathlib.Core.List.{_∷_, _++_, append-assoc}
 use Prim.Native.Nat.{suc}
-use Rattle.lexeme.specs.Coded.{fixed-code}
+use Rattle.lexeme.specs.Coded.{code-of}
 use Rattle.lexeme.specs.Lexemes.{Name, Lexeme, fixed}
 use Rattle.lexeme.specs.Lexemes.{open-round, close-round, open-brace, close-brace, becomes, DO, ERROR, IF, INT, NOT, PRINTI, PRINTLNS, PRINTS, READ, THEN, WHILE, end}
 use Rattle.sentence.specs.Sentences.{Sen, factor, term, expression, condition, command, commands, literal, variable, bracket, unsigned, signed, add, negated, compare, print, assign, while, when, single, then}
@@ -22,7 +22,7 @@ factor-had f (in-first k) = refl
 factor-had f (in-multiply t o k) = simp append-assoc
 
 good-at-factor : (k : Around factor) (l : Lexeme) → Good (before k) (depth k) (at-factor k l) l
-unfolding at-factor had before spell depth verdict nested-at open-at going closes opens is fixed-code
+unfolding at-factor had before spell depth verdict nested-at open-at going closes opens is code-of
 good-at-factor k l =
     by-lit l (λ n. good tt (rw (factor-open (literal n) k)) (factor-had (literal n) k))
     (by-name l (λ x. good tt (rw (factor-open (variable x) k)) (factor-had (variable x) k))
@@ -30,15 +30,15 @@ good-at-factor k l =
     stuck))
 
 good-at-expression : (k : Around expression) (l : Lexeme) → Good (before k) (depth k) (at-expression k l) l
-unfolding at-expression had before depth verdict nested-at open-at going closes opens is fixed-code
+unfolding at-expression had before depth verdict nested-at open-at going closes opens is code-of
 good-at-expression k l = by-sign l (λ s. good tt refl refl) (good-at-factor (in-first (in-unsigned k)) l)
 
 good-at-condition : (k : Around condition) (l : Lexeme) → Good (before k) (depth k) (at-condition k l) l
-unfolding at-condition had before depth verdict nested-at open-at going closes opens is fixed-code
+unfolding at-condition had before depth verdict nested-at open-at going closes opens is code-of
 good-at-condition k l = by-word NOT l (good tt refl refl) (good-at-expression (in-left k) l)
 
 good-at-command : (k : Around command) (l : Lexeme) → Good (before k) (depth k) (at-command k l) l
-unfolding at-command had before spell depth verdict nested-at open-at going closes opens is fixed-code
+unfolding at-command had before spell depth verdict nested-at open-at going closes opens is code-of
 good-at-command k l =
     by-word PRINTI l (good tt refl refl)
     (by-word PRINTLNS l (good tt refl refl)
@@ -55,13 +55,13 @@ good-at-command k l =
 -- ---- after a construct
 
 good-at-command-or-brace : (ms : Sen Name commands) (k : Around command) (l : Lexeme) → Good (before k ++ fixed open-brace ∷ spell ms) (suc (depth k)) (at-command-or-brace ms k l) l
-unfolding at-command-or-brace had before spell depth verdict nested-at open-at going closes opens is fixed-code
+unfolding at-command-or-brace had before spell depth verdict nested-at open-at going closes opens is code-of
 good-at-command-or-brace ms k l =
     by-word close-brace l (good tt refl (simp append-assoc))
     (good-at-command (in-block-after ms k) l)
 
 good-after-command : (m : Sen Name command) (k : Around command) (l : Lexeme) → Good (before k ++ spell m) (depth k) (after-command m k l) l
-unfolding after-command had before spell program depth verdict nested-at open-at going closes opens is fixed-code
+unfolding after-command had before spell program depth verdict nested-at open-at going closes opens is code-of
 good-after-command m (in-while-body c k) l = simp append-assoc (deeper (good-after-command (while c m) k l))
 good-after-command m (in-when-body c k) l = simp append-assoc (deeper (good-after-command (when c m) k l))
 good-after-command m (in-block k) l = simp append-assoc (good-at-command-or-brace (single m) k l)
@@ -69,13 +69,13 @@ good-after-command m (in-block-after ms k) l = simp append-assoc (good-at-comman
 good-after-command m in-program l = by-word end l (good tt refl refl) stuck
 
 good-after-condition : (c : Sen Name condition) (k : Around condition) (l : Lexeme) → Good (before k ++ spell c) (depth k) (after-condition c k l) l
-unfolding after-condition had before spell depth verdict nested-at open-at going closes opens is fixed-code
+unfolding after-condition had before spell depth verdict nested-at open-at going closes opens is code-of
 good-after-condition c (in-negated k) l = simp append-assoc (deeper (good-after-condition (negated c) k l))
 good-after-condition c (in-while k) l = by-word DO l (good tt refl (simp append-assoc)) stuck
 good-after-condition c (in-when k) l = by-word THEN l (good tt refl (simp append-assoc)) stuck
 
 good-whole-expression : (e : Sen Name expression) (k : Around expression) (l : Lexeme) → Good (before k ++ spell e) (depth k) (whole-expression e k l) l
-unfolding whole-expression had before spell depth verdict nested-at open-at going closes opens is fixed-code
+unfolding whole-expression had before spell depth verdict nested-at open-at going closes opens is code-of
 good-whole-expression e (in-bracket k) l =
     by-word close-round l
     (good tt (rw (factor-open (bracket e) k)) (factor-had (bracket e) k ∙ simp append-assoc)) stuck
@@ -85,7 +85,7 @@ good-whole-expression e (in-print k) l = simp append-assoc (good-after-command (
 good-whole-expression e (in-assign x k) l = simp append-assoc (good-after-command (assign x e) k l)
 
 good-after-expression : (e : Sen Name expression) (k : Around expression) (l : Lexeme) → Good (before k ++ spell e) (depth k) (after-expression e k l) l
-unfolding after-expression had before depth verdict nested-at open-at going closes opens is fixed-code
+unfolding after-expression had before depth verdict nested-at open-at going closes opens is code-of
 good-after-expression e k l = by-sign l (λ s. good tt refl (simp append-assoc)) (good-whole-expression e k l)
 
 good-whole-term : (t : Sen Name term) (k : Around term) (l : Lexeme) → Good (before k ++ spell t) (depth k) (whole-term t k l) l
@@ -95,7 +95,7 @@ good-whole-term t (in-signed s k) l = simp append-assoc (good-after-expression (
 good-whole-term t (in-add e s k) l = simp append-assoc (good-after-expression (add e s t) k l)
 
 pub good-step : (s : State) (l : Lexeme) → Good (had s) (open-at (verdict s)) (step s l) l
-unfolding step had before spell after-term depth verdict nested-at open-at going closes opens is fixed-code
+unfolding step had before spell after-term depth verdict nested-at open-at going closes opens is code-of
 good-step want-DO l = by-word DO l (good tt refl refl) stuck
 good-step (want-factor k) l = good-at-factor k l
 good-step (want-expression k) l = good-at-expression k l

@@ -3,7 +3,7 @@ use mathlib.Core.Path.{_≡_, refl, ap}
 use mathlib.Core.List.{List, [], _∷_, _++_, append-assoc}
 use mathlib.Core.Bool.{Bool, cond, _||_}
 use Prim.Native.Nat.{ℕ, suc}
-use Rattle.lexeme.specs.Coded.{fixed-code}
+use Rattle.lexeme.specs.Coded.{code-of}
 use Rattle.lexeme.specs.Lexemes.{Name, Sign, Mul, Fixed, Lexeme, name, sign, mul, rel, fixed}
 use Rattle.lexeme.specs.Lexemes.{close-round, open-brace, close-brace, DO, ERROR, IF, INT, PRINTI, PRINTLNS, PRINTS, READ, THEN, WHILE, end}
 use Rattle.sentence.specs.Sentences.{Kind, Sen, factor, term, expression, condition, command, commands, literal, variable, bracket, first, multiply, unsigned, signed, add, negated, compare, print, print-line, print-string, declare, input, assign, error, while, when, block, single, then}
@@ -80,7 +80,7 @@ lead (multiply t o f) k ls = rw append-assoc (lead t k (mul o ∷ (spell f ++ ls
 
 -- an expression is read where a condition is wanted
 lead-condition-term : (t : Sen Name term) (k : Around condition) (ls : List Lexeme) → walk (want-condition k) (spell t ++ ls) ≡ walk (want-expression (in-left k)) (spell t ++ ls)
-unfolding walk step spell at-condition on is fixed-code
+unfolding walk step spell at-condition on is code-of
 lead-condition-term (first (literal n)) k ls = refl
 lead-condition-term (first (variable x)) k ls = refl
 lead-condition-term (first (bracket e)) k ls = refl
@@ -106,7 +106,7 @@ unfolding on-mul on-sign
 by-word w m rest e b = record { begin = fixed w; rest = rest; same = e; no-mul = λ f s. refl; no-sign = λ f s. refl; no-brace = b }
 
 begun : (m : Sen Name command) → Begun m
-unfolding spell on is on-mul on-sign fixed-code
+unfolding spell on is on-mul on-sign code-of
 begun (print e) = by-word PRINTI _ _ refl (λ s t. refl)
 begun (print-line q) = by-word PRINTLNS _ _ refl (λ s t. refl)
 begun (print-string q) = by-word PRINTS _ _ refl (λ s t. refl)
@@ -119,7 +119,7 @@ begun (when c m) = by-word IF _ _ refl (λ s t. refl)
 begun (block ms) = by-word open-brace _ _ refl (λ s t. refl)
 
 reads : {k : Kind} (x : Sen Name k) → Reads k x
-unfolding Reads spell nestings depth walk went after nested-at closes verdict step at-factor at-expression at-condition at-command at-command-or-brace after-command after-condition whole-expression after-expression whole-term after-term got-factor on on-lit on-name on-string on-sign on-mul on-rel is fixed-code
+unfolding Reads spell nestings depth walk went after nested-at closes verdict step at-factor at-expression at-condition at-command at-command-or-brace after-command after-condition whole-expression after-expression whole-term after-term got-factor on on-lit on-name on-string on-sign on-mul on-rel is code-of
 reads (literal n) = λ k ls. rw (factor-open (literal n) k)
 reads (variable x) = λ k ls. rw (factor-open (variable x) k)
 reads (bracket e) = λ k ls. simp append-assoc (rw (reads e (in-bracket k) (fixed close-round) ls (λ f s. refl), factor-open (bracket e) k))
@@ -150,5 +150,5 @@ reads (then ms m) = λ k l ls h g.
 
 -- every Program is read, and its lexemes stand in the nestings that Sentences.antt says
 pub complete : (m : Sen Name command) → walk want-DO (program m ++ fixed end ∷ []) ≡ record { state = whole m; nested = program-nestings m ++ 0 ∷ [] }
-unfolding Reads program program-nestings walk went after nested-at closes verdict depth step after-command on on-mul on-sign is fixed-code
+unfolding Reads program program-nestings walk went after nested-at closes verdict depth step after-command on on-mul on-sign is code-of
 complete m = rw (reads m in-program (fixed end) [] (λ f s. refl) (λ f s. refl))

@@ -5,7 +5,7 @@ use mathlib.Core.Bool.{Bool, true, false, cond}
 use Prim.Native.Nat.{ℕ, zero, suc}
 use lib.Dec.{ltb, eqb}
 use Rattle.lexeme.specs.Answers.{Answer, given, refused}
-use Rattle.lexeme.specs.Coded.{fixed-code}
+use Rattle.lexeme.specs.Coded.{code-of}
 use Rattle.lexeme.specs.Lexemes.{Name, Quoted, Sign, Mul, Rel, Fixed, Lexeme, Placed, lit, name, class, string, sign, mul, rel, fixed}
 use Rattle.lexeme.specs.Lexemes.{open-round, close-round, open-brace, close-brace, becomes, DO, ERROR, IF, INT, NOT, PRINTI, PRINTLNS, PRINTS, READ, THEN, WHILE, end}
 use Rattle.sentence.specs.Sentences.{Kind, Sen, factor, term, expression, condition, command, commands, literal, variable, bracket, first, multiply, unsigned, signed, add, negated, compare, print, print-line, print-string, declare, input, assign, error, while, when, block, single, then}
@@ -81,7 +81,7 @@ is w (string q) = false
 is w (sign s) = false
 is w (mul o) = false
 is w (rel r) = false
-is w (fixed v) = eqb (fixed-code v) (fixed-code w)
+is w (fixed v) = eqb (code-of v) (code-of w)
 
 unfoldable pub on : Fixed → Lexeme → State → State → State
 on w l such other = cond (is w l) such other

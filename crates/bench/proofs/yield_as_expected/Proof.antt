@@ -1,10 +1,38 @@
 -- The definitions compute: once the limits are the constants, both sides are the same.
 use mathlib.Core.Path.{refl}
+use Rattle.lexeme.specs.Answers as Answers
+use Rattle.lexeme.specs.Bytes as Bytes
+use Rattle.lexeme.specs.Coded as Coded
+use Rattle.lexeme.specs.Lexemes as Lexemes
+use Rattle.sentence.specs.Sentences as Sentences
+use Rattle.sentence.specs.Reader as Reader
+use Rattle.names.specs.Names as Names
+use Rattle.machine.specs.Numbers as Numbers
+use Rattle.machine.specs.Instructions as Instructions
+use Rattle.machine.specs.Machine as Machine
+use Rattle.meaning.specs.Layout as Layout
+use Rattle.compiler.specs.Compiled as Compiled
+use Rattle.bench.specs.Examples as Examples
 use Rattle.bench.proofs.yield_as_expected.Statement.{statement}
 use Rattle.bench.proofs.yield_as_expected.Tie as tie
 
 returns : tie.Need-returns
-returns c = rw (c .pre .0, c .pre .1, c .pre .2) (unfold Rattle.lexeme.specs.Answers.pass Rattle.lexeme.specs.Bytes.bytes-from Rattle.lexeme.specs.Bytes.bytes Rattle.lexeme.specs.Bytes.separator Rattle.lexeme.specs.Bytes.small Rattle.lexeme.specs.Bytes.capital Rattle.lexeme.specs.Bytes.letter Rattle.lexeme.specs.Bytes.digit Rattle.lexeme.specs.Bytes.letter-or-digit Rattle.lexeme.specs.Bytes.no-quote Rattle.lexeme.specs.Bytes.run Rattle.lexeme.specs.Bytes.all Rattle.lexeme.specs.Bytes.same Rattle.lexeme.specs.Coded.fixed-code Rattle.lexeme.specs.Lexemes.found Rattle.lexeme.specs.Lexemes.keywords Rattle.lexeme.specs.Lexemes.capital-word Rattle.lexeme.specs.Lexemes.starts-small Rattle.lexeme.specs.Lexemes.value Rattle.lexeme.specs.Lexemes.letter-word Rattle.lexeme.specs.Lexemes.digit-word Rattle.lexeme.specs.Lexemes.word Rattle.lexeme.specs.Lexemes.string-at Rattle.lexeme.specs.Lexemes.symbols Rattle.lexeme.specs.Lexemes.symbol Rattle.lexeme.specs.Lexemes.colon Rattle.lexeme.specs.Lexemes.here Rattle.lexeme.specs.Lexemes.next Rattle.lexeme.specs.Lexemes.lexemes-from Rattle.lexeme.specs.Lexemes.lexemes Rattle.sentence.specs.Sentences.program Rattle.sentence.specs.Sentences.program-nestings Rattle.sentence.specs.Reader.depth Rattle.sentence.specs.Reader.is Rattle.sentence.specs.Reader.on Rattle.sentence.specs.Reader.on-lit Rattle.sentence.specs.Reader.on-name Rattle.sentence.specs.Reader.on-string Rattle.sentence.specs.Reader.on-sign Rattle.sentence.specs.Reader.on-mul Rattle.sentence.specs.Reader.on-rel Rattle.sentence.specs.Reader.got-factor Rattle.sentence.specs.Reader.at-factor Rattle.sentence.specs.Reader.at-expression Rattle.sentence.specs.Reader.at-condition Rattle.sentence.specs.Reader.at-command Rattle.sentence.specs.Reader.at-command-or-brace Rattle.sentence.specs.Reader.after-command Rattle.sentence.specs.Reader.after-condition Rattle.sentence.specs.Reader.whole-expression Rattle.sentence.specs.Reader.after-expression Rattle.sentence.specs.Reader.whole-term Rattle.sentence.specs.Reader.after-term Rattle.sentence.specs.Reader.step Rattle.sentence.specs.Reader.verdict Rattle.sentence.specs.Reader.read-from Rattle.sentence.specs.Reader.read Rattle.names.specs.Names._>>=_ Rattle.names.specs.Names.give Rattle.names.specs.Names.look-up Rattle.names.specs.Names.used Rattle.names.specs.Names.one-more Rattle.names.specs.Names.declared-here Rattle.names.specs.Names.scoped Rattle.names.specs.Names.resolve Rattle.names.specs.Names.resolved Rattle.machine.specs.Numbers.in-range Rattle.machine.specs.Numbers.is-false Rattle.machine.specs.Numbers.truth Rattle.machine.specs.Numbers.calculate Rattle.machine.specs.Numbers.negation Rattle.machine.specs.Numbers.digits Rattle.machine.specs.Numbers.decimal Rattle.machine.specs.Instructions.alone Rattle.machine.specs.Instructions.natural Rattle.machine.specs.Instructions.halting Rattle.machine.specs.Instructions.operation Rattle.machine.specs.Instructions.decode Rattle.machine.specs.Instructions.number Rattle.machine.specs.Instructions.pair Rattle.machine.specs.Instructions.numbers Rattle.machine.specs.Machine.string-from Rattle.machine.specs.Machine.reading Rattle.machine.specs.Machine.one-used Rattle.machine.specs.Machine.printed Rattle.machine.specs.Machine.peek Rattle.machine.specs.Machine.poke Rattle.machine.specs.Machine.pushed Rattle.machine.specs.Machine.resulting Rattle.machine.specs.Machine.pairs Rattle.machine.specs.Machine.jumped Rattle.machine.specs.Machine.taken Rattle.machine.specs.Machine.written Rattle.machine.specs.Machine.quoted Rattle.machine.specs.Machine.does Rattle.machine.specs.Machine.decoded Rattle.machine.specs.Machine.fetched Rattle.machine.specs.Machine.step Rattle.machine.specs.Machine.run Rattle.machine.specs.Machine.report Rattle.machine.specs.Machine.bad-table Rattle.machine.specs.Machine.whole-run Rattle.machine.specs.Machine.stack-after Rattle.machine.specs.Machine.room-after Rattle.meaning.specs.Layout.size Rattle.meaning.specs.Layout.code Rattle.meaning.specs.Layout.program-code Rattle.meaning.specs.Layout.need Rattle.meaning.specs.Layout.program-need Rattle.compiler.specs.Compiled.short-enough Rattle.compiler.specs.Compiled.code-of-text Rattle.compiler.specs.Compiled.fitting Rattle.compiler.specs.Compiled.lexed Rattle.compiler.specs.Compiled.laid-out Rattle.compiler.specs.Compiled.compiled Rattle.compiler.specs.Compiled.report Rattle.compiler.specs.Compiled.filled Rattle.compiler.specs.Compiled.table-after Rattle.bench.specs.Examples.ran Rattle.bench.specs.Examples.judged Rattle.bench.specs.Examples.yields in refl)
+returns c = rw (c .pre .0, c .pre .1, c .pre .2)
+    (unfold
+    Answers.pass
+    Bytes.bytes-from Bytes.bytes Bytes.separator Bytes.small Bytes.capital Bytes.letter Bytes.digit Bytes.letter-or-digit Bytes.no-quote Bytes.run Bytes.all Bytes.same
+    Coded.code-of
+    Lexemes.found Lexemes.keywords Lexemes.capital-word Lexemes.starts-small Lexemes.value Lexemes.letter-word Lexemes.digit-word Lexemes.word Lexemes.string-at Lexemes.symbols Lexemes.symbol Lexemes.colon Lexemes.here Lexemes.next Lexemes.lexemes-from Lexemes.lexemes
+    Sentences.program Sentences.program-nestings
+    Reader.depth Reader.is Reader.on Reader.on-lit Reader.on-name Reader.on-string Reader.on-sign Reader.on-mul Reader.on-rel Reader.got-factor Reader.at-factor Reader.at-expression Reader.at-condition Reader.at-command Reader.at-command-or-brace Reader.after-command Reader.after-condition Reader.whole-expression Reader.after-expression Reader.whole-term Reader.after-term Reader.step Reader.verdict Reader.read-from Reader.read
+    Names._>>=_ Names.give Names.look-up Names.used Names.one-more Names.declared-here Names.scoped Names.resolve Names.resolved
+    Numbers.in-range Numbers.is-false Numbers.truth Numbers.calculate Numbers.negation Numbers.digits Numbers.decimal
+    Instructions.alone Instructions.natural Instructions.halting Instructions.operation Instructions.decode Instructions.number Instructions.pair Instructions.numbers
+    Machine.string-from Machine.reading Machine.one-used Machine.printed Machine.peek Machine.poke Machine.pushed Machine.resulting Machine.pairs Machine.jumped Machine.taken Machine.written Machine.quoted Machine.does Machine.decoded Machine.fetched Machine.step Machine.run Machine.report Machine.bad-table Machine.whole-run Machine.stack-after Machine.room-after
+    Layout.size Layout.code Layout.program-code Layout.need Layout.program-need
+    Compiled.short-enough Compiled.code-of-text Compiled.fitting Compiled.lexed Compiled.laid-out Compiled.compiled Compiled.report Compiled.filled Compiled.table-after
+    Examples.ran Examples.judged Examples.yields
+    in refl)
 
 pub yield-as-expected-spec : {M : Type 1} → statement M
 yield-as-expected-spec = tie.close (tie.spec returns)

@@ -1,12 +1,11 @@
 -- `lexeme::colon_at` meets its contract. Assumes nothing.
 use Prim.Native.Nat.{_+_}
-use native.Mathlib.Omega.{arith}
 use borrow.Author.Tests.{eq-eqb, ne-eqb}
 use denote.Ref.{now}
 use lib.ListN.{drop-of-length-le}
 use lib.Seq.{drop-cons}
 use Rattle.lexeme.specs.Lexemes.{colon, found}
-use Rattle.lexeme.specs.Coded.{kind-of, coded, fixed-code}
+use Rattle.lexeme.specs.Coded.{kind-of, coded, code-of}
 use borrow.Author.Needs.{needs}
 use Rattle.lexeme.proofs.colon_at.Statement.{statement}
 use Rattle.lexeme.proofs.colon_at.Tie as tie
@@ -21,15 +20,15 @@ add-t10 : tie.Need-add-t10
 add-t10 c = search needs
 
 returns : tie.Need-returns
-unfolding colon found coded kind-of fixed-code
+unfolding colon found coded kind-of code-of
 returns c = rw (drop-cons (now (c .before .before .before .args .text)) (c .before .before .before .args .p + 1) 0 (c .before .before .if1 .taken), eq-eqb _ 61 (c .if2 .taken))
 
 returns-2 : tie.Need-returns-2
-unfolding colon found coded kind-of fixed-code
+unfolding colon found coded kind-of code-of
 returns-2 c = rw (drop-cons (now (c .before .before .before .args .text)) (c .before .before .before .args .p + 1) 0 (c .before .before .if1 .taken), ne-eqb _ 61 (c .if2 .left))
 
 returns-3 : tie.Need-returns-3
-unfolding colon found coded kind-of fixed-code
+unfolding colon found coded kind-of code-of
 returns-3 c = rw (drop-of-length-le (now (c .before .args .text)) (c .if1 .left))
 
 pub colon-at-spec : {M : Type 1} → statement M

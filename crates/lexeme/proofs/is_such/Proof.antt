@@ -1,5 +1,4 @@
 -- `lexeme::is_such` meets its contract. Assumes nothing.
-use mathlib.Core.Path.{_∙_, sym, ap}
 use Rattle.lexeme.specs.Bytes.{letter-or-digit, no-quote}
 use Rattle.lexeme.specs.Coded.{such}
 use borrow.Author.Needs.{needs}

@@ -1,14 +1,16 @@
 -- `lexeme::next` meets its contract. Assumes nothing.
-use mathlib.Core.Path.{sym, ap, _∙_}
+use Prim.Native.Nat.{ℕ}
+use mathlib.Core.List.{List}
+use mathlib.Core.Path.{_≡_, sym, ap, _∙_}
 use native.Mathlib.Omega.{arith}
-use borrow.Author.Tests.{eq-eqb, ne-eqb}
+use borrow.Author.Tests.{ne-eqb}
 use denote.Ref.{now}
-use lib.ListN.{drop, length-drop}
+use lib.ListN.{getD, drop, length-drop}
 use Rattle.lexeme.specs.Bytes.{letter-or-digit}
-use Rattle.lexeme.specs.Lexemes.{next}
+use Rattle.lexeme.specs.Lexemes.{Sizes, next}
 use Rattle.lexeme.specs.Coded.{such, coded}
 use Rattle.lexeme.proofs.Runs.{run-part, run-fits}
-use Rattle.lexeme.proofs.Places.{here-end, here-word, here-other}
+use Rattle.lexeme.proofs.Places.{here-end, here-word, here-other, other}
 use borrow.Author.Needs.{needs}
 use Rattle.lexeme.proofs.next.Statement.{statement}
 use Rattle.lexeme.proofs.next.Tie as tie
@@ -37,14 +39,33 @@ part-word-at-start c = search needs
 
 part-word-at-end : tie.Need-part-word-at-end
 unfolding such
-part-word-at-end c = omega (arith, c .run-end2 .ensures, run-fits letter-or-digit (drop (c .before .before .before .before .before .run-end .result) (now (c .before .before .before .before .before .before .before .args .text))), length-drop (c .before .before .before .before .before .run-end .result) (now (c .before .before .before .before .before .before .before .args .text)))
+part-word-at-end c =
+    let text = now (c .before .before .before .before .before .before .before .args .text) in
+    let p = c .before .before .before .before .before .run-end .result in
+    omega (arith, c .run-end2 .ensures, run-fits letter-or-digit (drop p text), length-drop p text)
 
 word-at-requires : tie.Need-word-at-requires
 word-at-requires c κs = search needs
 
 returns-2 : tie.Need-returns-2
 unfolding next such
-returns-2 c = rw (← c .before .before .before .before .before .before .before .run-end .ensures, here-word _ (now (c .before .before .before .before .before .before .before .before .before .args .text)) (c .before .before .before .before .before .before .before .run-end .result) (omega arith) (sym (c .before .before .before .before .is-such .ensures) ∙ c .before .before .before .if2 .taken), ← run-part letter-or-digit (now (c .before .before .before .before .before .before .before .before .before .args .text)) (c .before .before .before .before .before .before .before .run-end .result) _ (c .before .before .run-end2 .ensures)) (c .word-at .ensures)
+returns-2 c =
+    let text = now (c .before .before .before .before .before .before .before .before .before .args .text) in
+    let p = c .before .before .before .before .before .before .before .run-end .result in
+    rw (← c .before .before .before .before .before .before .before .run-end .ensures, here-word _ text p (omega arith) (sym (c .before .before .before .before .is-such .ensures) ∙ c .before .before .before .if2 .taken), ← run-part letter-or-digit text p _ (c .before .before .run-end2 .ensures))
+    (c .word-at .ensures)
+
+-- the text, and the place after the separators
+abbrev text-of : tie.Else2 → List ℕ
+text-of c = now (c .before .before .before .before .before .before .args .text)
+
+abbrev place-of : tie.Else2 → ℕ
+place-of c = c .before .before .before .before .run-end .result
+
+-- at a byte that is no letter and no digit
+at-other : (c : tie.Else2) (most : Sizes) → next most (text-of c) (c .before .before .before .before .before .before .args .at) ≡ other most (text-of c) (place-of c) (getD (text-of c) (place-of c) 0)
+unfolding next such
+at-other c most = rw (← c .before .before .before .before .run-end .ensures) (here-other most _ _ (omega arith) (sym (c .before .is-such .ensures) ∙ c .if2 .left))
 
 string-at-requires : tie.Need-string-at-requires
 string-at-requires c κs = search needs
@@ -59,16 +80,13 @@ symbol-at-requires : tie.Need-symbol-at-requires
 symbol-at-requires c κs = search needs
 
 returns-3 : tie.Need-returns-3
-unfolding next such
-returns-3 c = rw (← c .before .before .before .before .before .before .run-end .ensures, here-other _ (now (c .before .before .before .before .before .before .before .before .args .text)) (c .before .before .before .before .before .before .run-end .result) (omega arith) (sym (c .before .before .before .is-such .ensures) ∙ c .before .before .if2 .left), c .before .match .keys1) (c .string-at .ensures)
+returns-3 c = rw (at-other (c .before .before) _, c .before .match .keys1) (c .string-at .ensures)
 
 returns-4 : tie.Need-returns-4
-unfolding next such
-returns-4 c = rw (← c .before .before .before .before .before .before .run-end .ensures, here-other _ (now (c .before .before .before .before .before .before .before .before .args .text)) (c .before .before .before .before .before .before .run-end .result) (omega arith) (sym (c .before .before .before .is-such .ensures) ∙ c .before .before .if2 .left), c .before .match .keys2) (c .colon-at .ensures)
+returns-4 c = rw (at-other (c .before .before) _, c .before .match .keys2) (c .colon-at .ensures)
 
 returns-5 : tie.Need-returns-5
-unfolding next such
-returns-5 c = rw (← c .before .before .before .before .before .before .run-end .ensures, here-other _ (now (c .before .before .before .before .before .before .before .before .args .text)) (c .before .before .before .before .before .before .run-end .result) (omega arith) (sym (c .before .before .before .is-such .ensures) ∙ c .before .before .if2 .left), ne-eqb _ 34 (c .before .match .rest .0 .1), ne-eqb _ 58 (c .before .match .rest .1)) (c .symbol-at .ensures)
+returns-5 c = rw (at-other (c .before .before) _, ne-eqb _ 34 (c .before .match .rest .0 .1), ne-eqb _ 58 (c .before .match .rest .1)) (c .symbol-at .ensures)
 
 pub next-spec : {M : Type 1} → statement M
 next-spec =

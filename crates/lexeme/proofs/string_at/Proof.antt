@@ -1,17 +1,9 @@
 -- `lexeme::string_at` meets its contract. Assumes nothing.
-use Prim.Native.Nat.{ℕ, _+_}
 use mathlib.Core.Path.{ap}
-use native.Mathlib.Omega.{arith}
 use borrow.Author.Needs.{needs}
-use borrow.Author.Tests.{le-leb, lt-leb, lt-ltb, le-ltb}
-use denote.Ref.{now}
-use lib.ListN.{length, drop, length-drop}
-use Rattle.lexeme.specs.Bytes.{no-quote, run}
-use Rattle.lexeme.specs.Lexemes.{string-at, found}
+use Rattle.lexeme.specs.Lexemes.{found}
 use Rattle.lexeme.specs.Coded.{such, kind-of, coded}
-use Rattle.lexeme.specs.declared.Kind.the-variants.{Str}
-use Rattle.lexeme.specs.declared.Found.the-variants.{Is}
-use borrow.Author.Needs.{needs}
+use Rattle.lexeme.proofs.Words.{string-open, string-long, string-fits}
 use Rattle.lexeme.proofs.string_at.Statement.{statement}
 use Rattle.lexeme.proofs.string_at.Tie as tie
 
@@ -22,8 +14,8 @@ run-end-requires : tie.Need-run-end-requires
 run-end-requires c κs = search needs
 
 returns : tie.Need-returns
-unfolding string-at found such coded kind-of
-returns c = rw (le-leb (length (drop (c .before .before .before .args .p + 1) (now (c .before .before .before .args .text)))) (length (run no-quote (drop (c .before .before .before .args .p + 1) (now (c .before .before .before .args .text))))) (omega (arith, length-drop (c .before .before .before .args .p + 1) (now (c .before .before .before .args .text)), c .before .run-end .ensures)))
+unfolding such coded
+returns c = ap coded (string-open _ _ _ _ (c .before .run-end .ensures) (c .if1 .taken))
 
 add-if2 : tie.Need-add-if2
 add-if2 c = search needs
@@ -32,15 +24,15 @@ sub-if2 : tie.Need-sub-if2
 sub-if2 c = search needs
 
 returns-2 : tie.Need-returns-2
-unfolding string-at found such coded kind-of
-returns-2 c = rw (lt-leb (length (drop (c .before .before .before .before .args .p + 1) (now (c .before .before .before .before .args .text)))) (length (run no-quote (drop (c .before .before .before .before .args .p + 1) (now (c .before .before .before .before .args .text))))) (omega (arith, length-drop (c .before .before .before .before .args .p + 1) (now (c .before .before .before .before .args .text)), c .before .before .run-end .ensures)), lt-ltb 255 (length (run no-quote (drop (c .before .before .before .before .args .p + 1) (now (c .before .before .before .before .args .text))))) (omega (arith, length-drop (c .before .before .before .before .args .p + 1) (now (c .before .before .before .before .args .text)), c .before .before .run-end .ensures)))
+unfolding such coded
+returns-2 c = ap coded (string-long _ _ _ _ (c .before .before .run-end .ensures) (c .before .if1 .left) (c .if2 .taken))
 
 add-t4 : tie.Need-add-t4
 add-t4 c = search needs
 
 returns-3 : tie.Need-returns-3
-unfolding string-at found such coded kind-of
-returns-3 c = rw (lt-leb (length (drop (c .before .before .before .before .args .p + 1) (now (c .before .before .before .before .args .text)))) (length (run no-quote (drop (c .before .before .before .before .args .p + 1) (now (c .before .before .before .before .args .text))))) (omega (arith, length-drop (c .before .before .before .before .args .p + 1) (now (c .before .before .before .before .args .text)), c .before .before .run-end .ensures)), le-ltb 255 (length (run no-quote (drop (c .before .before .before .before .args .p + 1) (now (c .before .before .before .before .args .text))))) (omega (arith, length-drop (c .before .before .before .before .args .p + 1) (now (c .before .before .before .before .args .text)), c .before .before .run-end .ensures))) (ap (λ (e : ℕ). Is (record { kind = Str; place = c .before .before .before .before .args .p; end = e })) (omega (arith, c .before .before .run-end .ensures)))
+unfolding such coded kind-of found
+returns-3 c = ap coded (string-fits _ _ _ _ (c .before .before .run-end .ensures) (c .before .if1 .left) (c .if2 .left))
 
 pub string-at-spec : {M : Type 1} → statement M
 string-at-spec =

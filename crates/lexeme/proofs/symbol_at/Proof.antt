@@ -4,7 +4,7 @@ use mathlib.Core.Path.{_≡_, refl, ap}
 use mathlib.Core.Logic.{inl, inr}
 use native.Mathlib.Omega.{arith}
 use Rattle.lexeme.specs.Lexemes.{symbols, symbol, found}
-use Rattle.lexeme.specs.Coded.{coded, kind-of, sign-code, mul-code, rel-code, fixed-code}
+use Rattle.lexeme.specs.Coded.{coded, kind-of, sign-code, mul-code, rel-code, code-of}
 use Rattle.lexeme.specs.declared.Kind.{Kind}
 use Rattle.lexeme.specs.declared.Kind.the-variants.{Sign, Mul, Rel, Fixed}
 use Rattle.lexeme.specs.declared.Found.the-variants.{Is, Refused}
@@ -40,15 +40,15 @@ none c equal greater less opens closes =
     also nil))
 
 returns : tie.Need-returns
-unfolding symbols symbol found coded kind-of sign-code mul-code rel-code fixed-code
+unfolding symbols symbol found coded kind-of sign-code mul-code rel-code code-of
 returns c = rw (c .before .pre) (one-of (Said Sign (c .before .args .p)) _ (refl also refl also nil) (c .match .keys1))
 
 returns-2 : tie.Need-returns-2
-unfolding symbols symbol found coded kind-of sign-code mul-code rel-code fixed-code
+unfolding symbols symbol found coded kind-of sign-code mul-code rel-code code-of
 returns-2 c = rw (c .before .pre) (one-of (Said Mul (c .before .args .p)) _ (refl also refl also nil) (c .match .keys2))
 
 returns-3 : tie.Need-returns-3
-unfolding symbols symbol found coded kind-of sign-code mul-code rel-code fixed-code
+unfolding symbols symbol found coded kind-of sign-code mul-code rel-code code-of
 returns-3 c = rw (c .before .before .before .before .before .pre) (one-of (Said Rel (c .before .before .before .before .before .args .p)) _ (refl also refl also refl also nil) (in-range 2 60 _ (omega arith) (omega arith)))
 
 returns-4 : tie.Need-returns-4
@@ -61,11 +61,11 @@ returns-6 : tie.Need-returns-6
 returns-6 c = none (c .before .before .before .before) (λ e. omega arith) (λ e. omega arith) (λ e. omega arith) (λ e. omega arith) (λ e. omega arith)
 
 returns-7 : tie.Need-returns-7
-unfolding symbols symbol found coded kind-of sign-code mul-code rel-code fixed-code
+unfolding symbols symbol found coded kind-of sign-code mul-code rel-code code-of
 returns-7 c = rw (c .before .pre) (one-of (Said Fixed (c .before .args .p)) _ (refl also refl also refl also refl also refl also refl also nil) (c .match .keys3))
 
 returns-8 : tie.Need-returns-8
-unfolding symbols symbol found coded kind-of sign-code mul-code rel-code fixed-code
+unfolding symbols symbol found coded kind-of sign-code mul-code rel-code code-of
 returns-8 c = rw (c .before .before .before .pre) (one-of (Said Fixed (c .before .before .before .args .p)) _ (refl also refl also nil) (in-range 1 40 _ (omega arith) (omega arith)))
 
 pub symbol-at-spec : {M : Type 1} → statement M

@@ -1,9 +1,18 @@
 -- `lexeme::word_at` meets its contract. Assumes nothing.
+use mathlib.Core.Path.{_≡_, sym, _∙_}
+use mathlib.Core.List.{List}
+use mathlib.Core.Bool.{Bool}
+use Prim.Native.Nat.{ℕ}
+use Rattle.lexeme.specs.Bytes.{letter, digit, all}
 use Rattle.lexeme.specs.Lexemes.{word}
 use Rattle.lexeme.specs.Coded.{such, coded}
 use borrow.Author.Needs.{needs}
 use Rattle.lexeme.proofs.word_at.Statement.{statement}
 use Rattle.lexeme.proofs.word_at.Tie as tie
+
+-- what a call and a test of it say of all bytes of a word
+tested : (such : ℕ → Bool) (w : List ℕ) (t : Bool) {r : Bool} → r ≡ all such w → r ≡ t → all such w ≡ t
+tested such w t e h = sym e ∙ h
 
 is-all-requires : tie.Need-is-all-requires
 is-all-requires c κs = search needs
@@ -13,7 +22,7 @@ letter-word-requires c κs = search needs
 
 returns : tie.Need-returns
 unfolding word such
-returns c = rw (← c .before .before .is-all .ensures, c .before .if1 .taken) (c .letter-word .ensures)
+returns c = rw (tested letter _ _ (c .before .before .is-all .ensures) (c .before .if1 .taken)) (c .letter-word .ensures)
 
 is-all-requires-2 : tie.Need-is-all-requires-2
 is-all-requires-2 c κs = search needs
@@ -23,11 +32,11 @@ digit-word-requires c κs = search needs
 
 returns-2 : tie.Need-returns-2
 unfolding word such
-returns-2 c = rw (← c .before .before .before .before .is-all .ensures, c .before .before .before .if1 .left, ← c .before .before .is-all2 .ensures, c .before .if2 .taken) (c .digit-word .ensures)
+returns-2 c = rw (tested letter _ _ (c .before .before .before .before .is-all .ensures) (c .before .before .before .if1 .left), tested digit _ _ (c .before .before .is-all2 .ensures) (c .before .if2 .taken)) (c .digit-word .ensures)
 
 returns-3 : tie.Need-returns-3
 unfolding word such coded
-returns-3 c = rw (← c .before .before .before .is-all .ensures, c .before .before .if1 .left, ← c .before .is-all2 .ensures, c .if2 .left)
+returns-3 c = rw (tested letter _ _ (c .before .before .before .is-all .ensures) (c .before .before .if1 .left), tested digit _ _ (c .before .is-all2 .ensures) (c .if2 .left))
 
 pub word-at-spec : {M : Type 1} → statement M
 word-at-spec =
