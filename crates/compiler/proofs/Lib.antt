@@ -1,2 +1,4 @@
 pub mod Seen
 pub mod Reading
+pub mod Passes
+pub mod Commands

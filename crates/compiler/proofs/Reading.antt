@@ -4,6 +4,7 @@ use mathlib.Core.List.{List, [], _∷_}
 use mathlib.Core.Bool.{Bool, true, false}
 use mathlib.Core.Logic.{_⊎_, inl, inr}
 use Prim.Native.Nat.{ℕ, suc, _+_, _≤_, _<_}
+use native.Mathlib.Nat.{le-refl}
 use native.Mathlib.Omega.{arith}
 use borrow.Author.Tests.{lt-ltb, le-ltb}
 use lib.Dec.{ltb}
@@ -208,6 +209,23 @@ module _ {k k′ : Kind} {X X′ : Type 0} {text : List ℕ} {at e allow : ℕ} 
         (comes-on c (comes-within inner same-limit (comes p))));
     refuses = λ n p q. refuses text at allow (way .start) n p (comes-stuck c (stuck-within inner same-limit (stuck text e allow′ (way′ .start) n p q)));
   }
+
+-- a construct that begins with another, where nothing was read yet
+pub begins : {k k′ : Kind} {X X′ : Type 0} (text : List ℕ) (at allow : ℕ) (way : Way k X) (allow′ : ℕ) (way′ : Way k′ X′) (makes : X′ → X) (inner : Around k → Around k′)
+    → ((a : Around k) → depth (inner a) + allow′ ≡ depth a + allow)
+    → _≡_ {A = Around k → State} (way .start) (λ a. way′ .start (inner a))
+    → ((x : X′) → _≡_ {A = Around k → Lexeme → State} (λ a. way′ .stop x (inner a)) (way .stop (makes x)))
+    → Leads text at at allow way allow′ way′ makes
+begins {k} text at allow way allow′ way′ makes inner d e stops =
+    leads inner (le-refl at) d
+    (subst (λ (f : Around k → State). Comes text at at (λ (a : Around k). depth a + allow) (λ a. step (way .start a)) (λ a. step (f a))) e
+    (record { same = λ sizes ls h. (ls, h, λ a. refl) })) stops
+
+pub refuses-within : {k k′ : Kind} (text : List ℕ) (at allow allow′ : ℕ) (start′ : Around k′ → State) (n p : ℕ) (inner : Around k → Around k′)
+    → ((a : Around k) → depth (inner a) + allow′ ≡ depth a + allow)
+    → Refuses text at allow′ k′ start′ n p
+    → Refuses text at allow k (λ a. start′ (inner a)) n p
+refuses-within text at allow allow′ start′ n p inner d q = refuses text at allow (λ a. start′ (inner a)) n p (stuck-within inner d (stuck text at allow′ start′ n p q))
 
 -- ---- an expected lexeme
 
