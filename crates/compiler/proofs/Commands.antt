@@ -1,25 +1,28 @@
 -- How commands and Programs are read: a law for each way that their readers come to an answer. Assumes nothing.
-use mathlib.Core.Path.{_≡_, refl, sym, subst, ap, _∙_}
+use mathlib.Core.Path.{_≡_, refl, _∙_}
 use mathlib.Core.List.{List, [], _∷_}
-use mathlib.Core.Bool.{Bool, true, false}
+use mathlib.Core.Bool.{Bool, true, false, cond}
 use mathlib.Core.Logic.{inl, inr}
-use Prim.Native.Nat.{ℕ, suc, _+_, _-_, _≤_, _<_}
-use native.Mathlib.Nat.{le-refl}
+use Prim.Native.Nat.{ℕ, suc, _-_}
 use native.Mathlib.Omega.{arith}
+use lib.Dec.{eqb}
+use lib.IntN.{ℤ}
 use types.Run.{OneOf}
 use Rattle.lexeme.specs.Answers.{given, refused}
 use Rattle.lexeme.specs.Coded.{fixed-code}
 use Rattle.lexeme.specs.Lexemes.{Name, Lexeme, Fixed, Sizes, Placed, fixed, end, open-brace, close-brace, becomes, DO, ERROR, IF, INT, PRINTI, PRINTLNS, PRINTS, READ, THEN, WHILE}
 use Rattle.lexeme.specs.declared.Kind.the-variants as kind
 use Rattle.lexeme.specs.declared.Lexeme as code
-use Rattle.sentence.specs.Sentences.{Sen, expression, condition, command, commands, print, print-line, print-string, declare, input, assign, error, while, when, block, single, then}
-use Rattle.sentence.specs.Reader.{Around, depth, in-print, in-assign, in-while, in-when, in-while-body, in-when-body, in-block, in-block-after, in-program, State, want-DO, want-expression, want-condition, want-command, want-line, want-string, want-declared, want-read, want-becomes, got-command, whole, nowhere, is, on, on-name, on-string, at-command, at-command-or-brace, after-command, after-condition, whole-expression, step, verdict, goes-on, read-from, read}
+use Rattle.sentence.specs.Sentences.{Sen, condition, command, commands, print, print-line, print-string, declare, input, assign, error, while, when, block, single, then}
+use Rattle.sentence.specs.Reader.{Around, depth, in-print, in-assign, in-while, in-when, in-while-body, in-when-body, in-block, in-block-after, in-program, State, want-DO, want-expression, want-condition, want-command, want-declared, want-read, want-becomes, got-command, nowhere, is, on, on-name, on-string, at-command, at-command-or-brace, after-command, after-condition, whole-expression, step, verdict, goes-on, read}
+use Rattle.compiler.specs.declared.walk.Walk.{Walk}
+use Rattle.compiler.specs.declared.walk.Read.{Read}
 use Rattle.compiler.specs.Lexing.{Lexes}
 use Rattle.compiler.specs.Scopes.{name-at}
 use Rattle.compiler.specs.Steps.{fixed-number}
-use Rattle.compiler.specs.Walks.{read-via, Passes, Refuses, want-quoted}
+use Rattle.compiler.specs.Walks.{Reads, Reads-nested, Reads-when, Reads-while, Reads-block, want-quoted}
 use Rattle.compiler.proofs.Seen.{Seen, quoted-at, seen-name, seen-string, seen-fixed, no-fixed, no-name, no-string}
-use Rattle.compiler.proofs.Reading.{Comes, Stuck, comes-on, comes-stuck, comes-within, stuck-within, alike, onward, none, too-deep, Way, Passed, Barred, comes, passes, stuck, refuses, Leads, leads, begins, refuses-within, Met, Missed}
+use Rattle.compiler.proofs.Reading.{from-via, ended, Comes, Stuck, comes-on, comes-stuck, comes-within, stuck-within, alike, onward, none, too-deep, Way, Passed, Barred, comes, passes, stuck, refuses, Leads, leads, begins, refuses-within, Met, Missed}
 use Rattle.compiler.proofs.Passes.{expression-way, condition-way}
 
 -- ---- the ways of the readers
@@ -54,6 +57,10 @@ while-way = command-from (λ a. want-condition (in-while a))
 
 abbrev pub block-way : Way command (Sen Name command)
 block-way = command-from (λ a. want-command (in-block a))
+
+-- after IF, WHILE or `{`, by its number
+abbrev pub nested-way : ℕ → Way command (Sen Name command)
+nested-way f = command-from (cond (eqb f 6) (λ a. want-condition (in-when a)) (cond (eqb f 21) (λ a. want-condition (in-while a)) (λ a. want-command (in-block a))))
 
 abbrev pub block-so-far : Way command (Sen Name commands)
 block-so-far = record { start = λ a. want-command (in-block a); stop = at-command-or-brace }
@@ -200,6 +207,19 @@ module _ {text : List ℕ} {at m : ℕ} {r : code.Lexeme} (allow : ℕ) (ms : Se
       passes (omega (arith, p .later, s .later g)) (s .inside g)
       (comes-on (comes p) (onward s (at-command-or-brace ms) g (got-command (block ms)) (λ a. rw e) (λ a. omega arith)))
 
+-- what `nested` promises, as one way of reading
+pub reads-nested : (f : ℕ) (text names : List ℕ) (table : List ℤ) (w : Walk) (allow : ℕ) (r : Read) (names′ : List ℕ) (table′ : List ℤ)
+    → Reads-nested f text names table w allow r names′ table′
+    → Reads command (nested-way f .start) after-command text names table w (suc allow) r names′ table′
+unfolding Reads-nested
+reads-nested f text names table w allow r names′ table′ h = by-test (eqb f 6) (eqb f 21) h
+  where
+    by-test : (b c : Bool) → cond b Reads-when (cond c Reads-while Reads-block) text names table w allow r names′ table′
+        → Reads command (cond b (λ a. want-condition (in-when a)) (cond c (λ a. want-condition (in-while a)) (λ a. want-command (in-block a)))) after-command text names table w (suc allow) r names′ table′
+    by-test true c h = h
+    by-test false true h = h
+    by-test false false h = h
+
 -- ---- a command by its first lexeme
 
 module _ {text : List ℕ} {at : ℕ} {r : code.Lexeme} (s : Seen text at r) (allow : ℕ) where
@@ -277,6 +297,12 @@ module _ {text : List ℕ} {at : ℕ} {r : code.Lexeme} (s : Seen text at r) (al
   pub block-begins : fixed-number (r .kind) ≡ 123 → (allow ≡ 0 → ⊥) → Leads text at (r .end) allow command-way (suc (allow - 1)) block-way (λ m. m)
   block-begins h = opens-leads _ (opens-block h)
 
+  -- each of the three, by its number
+  pub nested-begins : OneOf (6 ∷ 21 ∷ 123 ∷ []) (fixed-number (r .kind)) → (allow ≡ 0 → ⊥) → Leads text at (r .end) allow command-way (suc (allow - 1)) (nested-way (fixed-number (r .kind))) (λ m. m)
+  nested-begins (inl h) z = rw h (when-begins h z)
+  nested-begins (inr (inl h)) z = rw h (while-begins h z)
+  nested-begins (inr (inr h)) z = rw h (block-begins h z)
+
   pub nested-too-deep : OneOf (6 ∷ 21 ∷ 123 ∷ []) (fixed-number (r .kind)) → allow ≡ 0 → Barred command-way text at allow 5 (r .place)
   nested-too-deep (inl h) = opens-too-deep _ (opens-when h)
   nested-too-deep (inr (inl h)) = opens-too-deep _ (opens-while h)
@@ -290,3 +316,43 @@ module _ {text : List ℕ} {at : ℕ} {r : code.Lexeme} (s : Seen text at r) (al
   no-command n e i p l t g o =
       no-command-from s allow want-command
       (λ a. rw (no-fixed s PRINTI p, no-fixed s PRINTLNS l, no-fixed s PRINTS t, no-fixed s INT i, no-fixed s READ g, no-name s n, no-fixed s ERROR e, no-fixed s WHILE (λ h. o (inr (inl h))), no-fixed s IF (λ h. o (inl h)), no-fixed s open-brace (λ h. o (inr (inr h)))))
+
+-- ---- a Program
+
+module _ {text : List ℕ} {e : ℕ} (limit : ℕ) (met : Met text 0 3 e) where
+  begun : Comes text 0 e (λ (i : Unit {0}). limit) (λ i. step want-DO) (λ i. step (want-command in-program))
+  unfolding step on is fixed-code verdict depth
+  begun =
+      let s = met .seen in
+      let d = seen-fixed s DO (met .number) in
+      rw (met .ends) (onward s (λ i. step want-DO) (rw d) (λ i. want-command in-program) (λ i. rw d) (λ i. omega arith))
+
+  pub program-refused : (n p : ℕ) → Barred command-way text e limit n p → (sizes : Sizes) (ls : List Placed) → Lexes sizes text 0 ls → read limit ls ≡ refused n p
+  unfolding read depth
+  program-refused n p q sizes ls h =
+      from-via sizes text 0 limit want-DO ls h
+      ∙ comes-stuck begun (stuck-within (λ i. in-program) (λ i. omega arith) (stuck text e limit want-command n p q)) .same sizes ls h tt
+
+  module _ (m : Sen Name command) {at : ℕ} {r : code.Lexeme} (p : Passed command-way text e at limit m) (s : Seen text at r) where
+    read-to : Comes text 0 at (λ (i : Unit {0}). limit) (λ i. step want-DO) (λ i. after-command m in-program)
+    unfolding depth
+    read-to = comes-on begun (comes-within (λ i. in-program) (λ i. omega arith) (comes p))
+
+    pub program-read : fixed-number (r .kind) ≡ 0 → (sizes : Sizes) (ls : List Placed) → Lexes sizes text 0 ls → read limit ls ≡ given m
+    unfolding read after-command on is fixed-code
+    program-read z sizes ls h =
+        let c = read-to .same sizes ls h in
+        let l = seen-fixed s end z in
+        from-via sizes text 0 limit want-DO ls h ∙ c .2 tt ∙ ended s limit (after-command m in-program) m (rw l) (rw l) sizes (c .0) (c .1)
+
+    pub program-unended : (fixed-number (r .kind) ≡ 0 → ⊥) → (sizes : Sizes) (ls : List Placed) → Lexes sizes text 0 ls → read limit ls ≡ refused 4 (r .place)
+    unfolding read after-command on fixed-code
+    program-unended z sizes ls h =
+        from-via sizes text 0 limit want-DO ls h
+        ∙ comes-stuck read-to (none s (λ i. after-command m in-program) (λ i. rw (no-fixed s end z))) .same sizes ls h tt
+
+pub no-program : {text : List ℕ} {n p : ℕ} (limit : ℕ) → Missed text 0 3 n p → (sizes : Sizes) (ls : List Placed) → Lexes sizes text 0 ls → read limit ls ≡ refused n p
+unfolding read step on fixed-code
+no-program {text} limit miss sizes ls h =
+    let st : Stuck text 0 (λ (i : Unit {0}). limit) (λ i. step want-DO) 4 (miss .lexeme .place) = none (miss .seen) (λ i. step want-DO) (λ i. rw (no-fixed (miss .seen) DO (miss .number))) in
+    rw (miss .refused-4, miss .there) (from-via sizes text 0 limit want-DO ls h ∙ st .same sizes ls h tt)

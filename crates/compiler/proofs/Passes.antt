@@ -1,22 +1,21 @@
 -- How factors, terms, expressions and conditions are read: a law for each way that their readers come to an answer. Assumes nothing.
-use mathlib.Core.Path.{_≡_, refl, sym, subst, ap, _∙_}
+use mathlib.Core.Path.{_≡_, refl}
 use mathlib.Core.List.{List}
-use mathlib.Core.Bool.{Bool, true, false}
-use Prim.Native.Nat.{ℕ, suc, _+_, _-_, _≤_, _<_}
+use mathlib.Core.Bool.{false}
+use Prim.Native.Nat.{ℕ, suc, _+_, _-_}
 use native.Mathlib.Nat.{le-refl}
 use native.Mathlib.Omega.{arith}
 use Rattle.lexeme.specs.Coded.{sign-code, mul-code, rel-code, fixed-code}
 use Rattle.lexeme.specs.Lexemes.{Name, Lexeme, Sign, Mul, Rel, end, open-round, close-round, NOT}
 use Rattle.lexeme.specs.declared.Kind.the-variants as kind
 use Rattle.lexeme.specs.declared.Lexeme as code
-use Rattle.sentence.specs.Sentences.{Kind, Sen, factor, term, expression, condition, literal, variable, bracket, first, multiply, unsigned, signed, add, negated, compare}
-use Rattle.sentence.specs.Reader.{Around, depth, in-first, in-multiply, in-unsigned, in-signed, in-add, in-bracket, in-left, in-right, in-negated, State, want-factor, want-expression, want-condition, got-term, nowhere, is, on, on-lit, on-name, on-sign, on-mul, on-rel, got-factor, at-factor, at-expression, at-condition, after-condition, whole-expression, after-expression, whole-term, after-term, step, verdict, goes-on}
+use Rattle.sentence.specs.Sentences.{Sen, factor, term, expression, condition, literal, variable, bracket, first, multiply, unsigned, signed, add, negated, compare}
+use Rattle.sentence.specs.Reader.{Around, depth, in-first, in-multiply, in-unsigned, in-signed, in-add, in-bracket, in-left, in-right, in-negated, want-factor, want-expression, want-condition, is, on, on-lit, on-name, on-sign, on-mul, on-rel, got-factor, at-factor, at-expression, at-condition, after-condition, whole-expression, after-expression, whole-term, after-term, step, verdict}
 use Rattle.sentence.proofs.Walk.{factor-open}
 use Rattle.compiler.specs.Scopes.{name-at}
 use Rattle.compiler.specs.Steps.{fixed-number, sign-number, mul-number, rel-number}
-use Rattle.compiler.specs.Walks.{Passes, Refuses}
 use Rattle.compiler.proofs.Seen.{Seen, seen-literal, seen-name, seen-fixed, seen-sign, seen-mul, seen-rel, no-fixed, no-lit, no-name, no-sign, no-mul, no-rel}
-use Rattle.compiler.proofs.Reading.{Comes, Stuck, comes-on, comes-stuck, comes-within, stuck-within, alike, onward, none, too-deep, Way, Passed, Barred, comes, passes, stuck, refuses, Leads, leads, begins, refuses-within, Met, Missed}
+use Rattle.compiler.proofs.Reading.{Comes, comes-on, comes-stuck, comes-within, alike, onward, none, too-deep, Way, Passed, Barred, comes, passes, refuses, Leads, leads, begins, refuses-within, Met, Missed}
 
 -- ---- the ways of the readers
 

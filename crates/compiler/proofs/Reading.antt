@@ -3,24 +3,25 @@ use mathlib.Core.Path.{_≡_, refl, sym, subst, ap, _∙_}
 use mathlib.Core.List.{List, [], _∷_}
 use mathlib.Core.Bool.{Bool, true, false}
 use mathlib.Core.Logic.{_⊎_, inl, inr}
-use Prim.Native.Nat.{ℕ, suc, _+_, _≤_, _<_}
+use Prim.Native.Nat.{ℕ, _+_, _≤_, _<_}
 use native.Mathlib.Nat.{le-refl}
 use native.Mathlib.Omega.{arith}
 use borrow.Author.Tests.{lt-ltb, le-ltb}
 use lib.Dec.{ltb}
 use lib.ListN.{length}
 use Rattle.lexeme.specs.Answers.{Answer, given, refused, pass}
-use Rattle.lexeme.specs.Coded.{fixed-code}
-use Rattle.lexeme.specs.Lexemes.{Name, Lexeme, Next, lexeme, nothing, fixed, end, Placed, Sizes, next, lexemes-from}
+use Rattle.lexeme.specs.Coded.{sign-code, mul-code, rel-code, fixed-code}
+use Rattle.lexeme.specs.Lexemes.{Name, Lexeme, Sign, Mul, Rel, Next, lexeme, nothing, fixed, end, Placed, Sizes, next, lexemes-from}
+use Rattle.lexeme.specs.declared.Kind.the-variants as kind
 use Rattle.lexeme.specs.declared.Lexeme as code
 use Rattle.sentence.specs.Sentences.{Kind, Sen, command}
 use Rattle.sentence.specs.Reader.{Around, depth, State, whole, nowhere, is, step, Verdict, verdict, goes-on, is-whole, begins-none, read-from, read, want-DO}
 use Rattle.compiler.specs.declared.walk.Walk.{Walk}
 use Rattle.compiler.specs.declared.walk.Read.the-variants.{Done, Refused}
-use Rattle.compiler.specs.Lexing.{Lexes, Clean, Looks, Expects}
-use Rattle.compiler.specs.Steps.{fixed-number, moved-to}
+use Rattle.compiler.specs.Lexing.{Lexes, Clean, Expects}
+use Rattle.compiler.specs.Steps.{fixed-number, sign-number, mul-number, rel-number, moved-to}
 use Rattle.compiler.specs.Walks.{read-via, Passes, Refuses}
-use Rattle.compiler.proofs.Seen.{Begins, Seen, seen, no-fixed}
+use Rattle.compiler.proofs.Seen.{Seen, seen, seen-name, seen-sign, seen-mul, seen-rel, no-fixed}
 
 -- ---- one lexeme
 
@@ -84,7 +85,7 @@ not-empty {A} sizes text at h = by-answer (next sizes text at) h
     by-answer (given nothing) q = let z : _≡_ {A = ℕ} 0 1 = cc in absurd (omega arith)
     by-answer (refused n k) q = let z : _≡_ {A = ℕ} 0 1 = cc in absurd (omega arith)
 
-from-via : (sizes : Sizes) (text : List ℕ) (at limit : ℕ) (s : State) (ls : List Placed) → Lexes sizes text at ls → read-from limit s ls ≡ read-via limit (step s) ls
+pub from-via : (sizes : Sizes) (text : List ℕ) (at limit : ℕ) (s : State) (ls : List Placed) → Lexes sizes text at ls → read-from limit s ls ≡ read-via limit (step s) ls
 unfolding read-from read-via
 from-via sizes text at limit s [] h = not-empty sizes text at h
 from-via sizes text at limit s (l ∷ ls) h = refl
@@ -150,6 +151,14 @@ module _ {I : Type 0} {text : List ℕ} {at : ℕ} {r : code.Lexeme} (s : Seen t
   too-deep t e deep = record {
     same = λ sizes ls h i. rw (s .same sizes ls h .split) (via-deep (limit i) _ _ (f i) (t i) (e i) (deep i));
   }
+
+-- the end of a whole Program
+pub ended : {text : List ℕ} {at : ℕ} {r : code.Lexeme} (s : Seen text at r) (limit : ℕ) (f : Lexeme → State) (m : Sen Name command) → is end (s .what) ≡ true → f (s .what) ≡ whole m → (sizes : Sizes) (ls : List Placed) → Lexes sizes text at ls → read-via limit f ls ≡ given m
+unfolding verdict read-from
+ended {r} s limit f m g e sizes ls h =
+    let b = s .same sizes ls h in
+    let l : Placed = record { place = r .place; what = s .what } in
+    ap (read-via limit f) (b .split ∙ ap (λ (x : List Placed). l ∷ x) (b .alone g)) ∙ via limit l [] f (whole m) e
 
 -- ---- from construct to construct
 
@@ -264,15 +273,33 @@ pub record After (sizes : Sizes) (text : List ℕ) (at e : ℕ) : Type 0 where
   pub inside : e ≤ length text
   pub clean : Clean sizes text e
 
-pub after : {text : List ℕ} {at : ℕ} {r : code.Lexeme} (sizes : Sizes) → Clean sizes text at → Seen text at r → (fixed-number (r .kind) ≡ 0 → ⊥) → After sizes text at (r .end)
-unfolding Clean fixed-code
-after sizes c s h =
-    let g = no-fixed s end h in
-    let b = s .same sizes (c .0) (c .1) in
-    record { later = s .later g; inside = s .inside g; clean = (b .rest, b .more g) }
+module _ {text : List ℕ} {at : ℕ} {r : code.Lexeme} (sizes : Sizes) (clean : Clean sizes text at) (s : Seen text at r) where
+  after : is end (s .what) ≡ false → After sizes text at (r .end)
+  unfolding Clean
+  after g = let b = s .same sizes (clean .0) (clean .1) in record { later = s .later g; inside = s .inside g; clean = (b .rest, b .more g) }
+
+  pub after-fixed : (fixed-number (r .kind) ≡ 0 → ⊥) → After sizes text at (r .end)
+  unfolding fixed-code
+  after-fixed h = after (no-fixed s end h)
+
+  pub after-name : r .kind ≡ kind.Name → After sizes text at (r .end)
+  unfolding is
+  after-name h = after (rw (seen-name s h))
+
+  pub after-sign : (g : Sign) → sign-number (r .kind) ≡ sign-code g → After sizes text at (r .end)
+  unfolding is
+  after-sign g h = after (rw (seen-sign s g h))
+
+  pub after-mul : (o : Mul) → mul-number (r .kind) ≡ mul-code o → After sizes text at (r .end)
+  unfolding is
+  after-mul o h = after (rw (seen-mul s o h))
+
+  pub after-rel : (q : Rel) → rel-number (r .kind) ≡ rel-code q → After sizes text at (r .end)
+  unfolding is
+  after-rel q h = after (rw (seen-rel s q h))
 
 pub after-met : {text : List ℕ} {at f e : ℕ} (sizes : Sizes) → Clean sizes text at → Met text at f e → (f ≡ 0 → ⊥) → After sizes text at e
-after-met {text} {at} sizes c m h = rw (m .ends) (after sizes c (m .seen) (λ z. h (sym (m .number) ∙ z)))
+after-met sizes c m h = rw (m .ends) (after-fixed sizes c (m .seen) (λ z. h (sym (m .number) ∙ z)))
 
 -- ---- the numbers of refusals
 

@@ -3,7 +3,7 @@ use mathlib.Core.Path.{_≡_, refl, sym, subst, ap, _∙_}
 use mathlib.Core.List.{List, [], _∷_}
 use mathlib.Core.Logic.{_⊎_, inl, inr}
 use mathlib.Core.Bool.{Bool, true, false, cond}
-use Prim.Native.Nat.{ℕ, suc, _+_, _≤_, _<_}
+use Prim.Native.Nat.{ℕ, _+_, _≤_, _<_}
 use native.Mathlib.Omega.{arith}
 use borrow.Author.Tests.{ne-eqb}
 use lib.Dec.{T, eqb, leb, ltb}
@@ -18,7 +18,7 @@ use Rattle.lexeme.specs.declared.Lexeme as code
 use Rattle.lexeme.proofs.Decoded.{sign-of, sign-back, mul-of, mul-back, rel-of, rel-back, fixed-of, fixed-in, fixeds, fixed-back, sign-injective, mul-injective, rel-injective, fixed-injective}
 use Rattle.lexeme.proofs.Symbols.{Each, nil, _also_}
 use Rattle.sentence.specs.Reader.{State, is, on-lit, on-name, on-string, on-sign, on-mul, on-rel}
-use Rattle.compiler.specs.Lexing.{Lexes, Clean, Goes-on, more, last, Shows, Looks}
+use Rattle.compiler.specs.Lexing.{Lexes, Clean, Goes-on, more, last, Looks}
 use Rattle.compiler.specs.Scopes.{word-at, name-at}
 use Rattle.compiler.specs.Steps.{fixed-number, sign-number, mul-number, rel-number}
 
@@ -29,20 +29,20 @@ unfoldable pub quoted-at : List ℕ → ℕ → Quoted
 quoted-at text p = record { inside = run no-quote (drop 1 (drop p text)); place = p + 1 }
 
 -- the lexeme of a kind that stands at the place p, where s is the text from p on
-unfoldable pub what-of : List ℕ → ℕ → Kind → Lexeme
-what-of s p (kind.Literal n) = lit n
-what-of s p kind.Name = name (record { letters = run letter-or-digit s; place = p })
-what-of s p kind.Class = class (record { letters = run letter-or-digit s; place = p })
-what-of s p kind.Str = string (record { inside = run no-quote (drop 1 s); place = p + 1 })
-what-of s p (kind.Sign n) = sign (sign-of n)
-what-of s p (kind.Mul n) = mul (mul-of n)
-what-of s p (kind.Rel n) = rel (rel-of n)
-what-of s p (kind.Fixed n) = fixed (fixed-of n)
+unfoldable pub lexeme-of : List ℕ → ℕ → Kind → Lexeme
+lexeme-of s p (kind.Literal n) = lit n
+lexeme-of s p kind.Name = name (record { letters = run letter-or-digit s; place = p })
+lexeme-of s p kind.Class = class (record { letters = run letter-or-digit s; place = p })
+lexeme-of s p kind.Str = string (record { inside = run no-quote (drop 1 s); place = p + 1 })
+lexeme-of s p (kind.Sign n) = sign (sign-of n)
+lexeme-of s p (kind.Mul n) = mul (mul-of n)
+lexeme-of s p (kind.Rel n) = rel (rel-of n)
+lexeme-of s p (kind.Fixed n) = fixed (fixed-of n)
 
 -- a lexeme that stands at the place p; only the end of the text is the end
 record Told (p : ℕ) (s : List ℕ) (l : Placed) : Type 0 where
   there : l .place ≡ p
-  reads : what-of s p (kind-of (l .what)) ≡ l .what
+  reads : lexeme-of s p (kind-of (l .what)) ≡ l .what
   going : is end (l .what) ≡ false
 
 abbrev Good : ℕ → List ℕ → Answer Next → Type 0
@@ -56,13 +56,13 @@ by-test P false f g = g
 
 -- what is said of a lexeme at the place p
 abbrev Right : ℕ → List ℕ → Lexeme → Type 0
-Right p s l = (what-of s p (kind-of l) ≡ l) × (is end l ≡ false)
+Right p s l = (lexeme-of s p (kind-of l) ≡ l) × (is end l ≡ false)
 
 told : (p : ℕ) (s : List ℕ) (l : Lexeme) → Right p s l → Told p s (record { place = p; what = l })
 told p s l h = record { there = refl; reads = h .0; going = h .1 }
 
 capital-right : (p : ℕ) (s : List ℕ) {ks : List Keyword} → Each (λ (k : Keyword). Right p s (fixed (k .means))) ks → Right p s (capital-word ks p (run letter-or-digit s))
-unfolding capital-word what-of kind-of is
+unfolding capital-word lexeme-of kind-of is
 capital-right p s nil = (refl, refl)
 capital-right p s (_also_ {a = k} {rest = ks} h hs) = by-spelling (capital-right p s hs) (same (run letter-or-digit s) (k .spelled))
   where
@@ -72,11 +72,11 @@ capital-right p s (_also_ {a = k} {rest = ks} h hs) = by-spelling (capital-right
 
 -- a fixed lexeme that is not the end
 fixed-right : (p : ℕ) (s : List ℕ) (f : Fixed) → is end (fixed f) ≡ false → Right p s (fixed f)
-unfolding what-of kind-of
+unfolding lexeme-of kind-of
 fixed-right p s f h = (ap fixed (fixed-back f), h)
 
 word-good : (most : Sizes) (p : ℕ) (s : List ℕ) → Good p s (word most p (run letter-or-digit s))
-unfolding word letter-word digit-word found what-of kind-of keywords is fixed-code
+unfolding word letter-word digit-word found lexeme-of kind-of keywords is fixed-code
 word-good most p s =
     let w = run letter-or-digit s in
     let f = fixed-right p s in
@@ -98,12 +98,12 @@ symbol-good p b s (_also_ {a = y} {rest = ys} h hs) = by-byte (symbol-good p b s
     by-byte later false = later
 
 colon-good : (p : ℕ) (s t : List ℕ) → Good p s (colon p t)
-unfolding colon found what-of kind-of is fixed-code
+unfolding colon found lexeme-of kind-of is fixed-code
 colon-good p s [] = tt
 colon-good p s (c ∷ t) = by-test (Good p s) (eqb c 61) (told p s _ (fixed-right p s _ refl)) tt
 
 here-good : (most : Sizes) (p : ℕ) (s : List ℕ) → Good p s (here most p s)
-unfolding here string-at found symbols what-of kind-of is fixed-code
+unfolding here string-at found symbols lexeme-of kind-of is fixed-code
 here-good most p [] = tt
 here-good most p (b ∷ s) =
     let f = fixed-right p (b ∷ s) in
@@ -123,11 +123,11 @@ here-good most p (b ∷ s) =
 
 -- the lexeme found; only the end stands alone
 record First (text : List ℕ) (l : Placed) (rest : List Placed) : Type 0 where
-  reads : what-of (drop (l .place) text) (l .place) (kind-of (l .what)) ≡ l .what
+  reads : lexeme-of (drop (l .place) text) (l .place) (kind-of (l .what)) ≡ l .what
   alone : is end (l .what) ≡ true → rest ≡ []
 
 first-of : (sizes : Sizes) (text : List ℕ) (at : ℕ) (l : Placed) (rest : List Placed) → Lexes sizes text at (l ∷ rest) → First text l rest
-unfolding Lexes lexemes-from next pass what-of kind-of is fixed-code
+unfolding Lexes lexemes-from next pass lexeme-of kind-of is fixed-code
 first-of sizes text at l rest h = by-answer (here sizes p (drop p text)) (here-good sizes p (drop p text)) h
   where
     p : ℕ
@@ -160,7 +160,7 @@ pub record Begins (sizes : Sizes) (text : List ℕ) (p e : ℕ) (l : Lexeme) (ls
 -- what was looked at, whatever the limits
 pub record Seen (text : List ℕ) (at : ℕ) (r : code.Lexeme) : Type 0 where
   pub what : Lexeme
-  pub is-what : what ≡ what-of (drop (r .place) text) (r .place) (r .kind)
+  pub is-what : what ≡ lexeme-of (drop (r .place) text) (r .place) (r .kind)
   pub kind : r .kind ≡ kind-of what
   pub later : is end what ≡ false → at < r .end
   pub inside : is end what ≡ false → r .end ≤ length text
@@ -175,9 +175,9 @@ pub seen : (sizes : Sizes) (text : List ℕ) (at : ℕ) (r : code.Lexeme) → Cl
 unfolding Clean Looks
 seen sizes text at r clean looks =
     let s = looks sizes (clean .0) (clean .1) in
-    let g : is end (what-of (drop (r .place) text) (r .place) (r .kind)) ≡ false → (at < r .end) × ((r .end ≤ length text) × Lexes sizes text (r .end) (s .rest)) = λ h. on-goes (s .after) (rw (is-it sizes (clean .0) (clean .1)) h) in
+    let g : is end (lexeme-of (drop (r .place) text) (r .place) (r .kind)) ≡ false → (at < r .end) × ((r .end ≤ length text) × Lexes sizes text (r .end) (s .rest)) = λ h. on-goes (s .after) (rw (is-it sizes (clean .0) (clean .1)) h) in
     record {
-      what = what-of (drop (r .place) text) (r .place) (r .kind);
+      what = lexeme-of (drop (r .place) text) (r .place) (r .kind);
       is-what = refl;
       kind = s .kind ∙ ap kind-of (is-it sizes (clean .0) (clean .1));
       later = λ h. g h .0;
@@ -190,7 +190,7 @@ seen sizes text at r clean looks =
       };
     }
   where
-    is-it : (most : Sizes) (ls : List Placed) (h : Lexes most text at ls) → looks most ls h .first .what ≡ what-of (drop (r .place) text) (r .place) (r .kind)
+    is-it : (most : Sizes) (ls : List Placed) (h : Lexes most text at ls) → looks most ls h .first .what ≡ lexeme-of (drop (r .place) text) (r .place) (r .kind)
     is-it most ls h =
         let s = looks most ls h in
         sym (rw (s .kind, s .place) (first-of most text at (s .first) (s .rest) (rw (s .split) at h) .reads))
@@ -269,16 +269,16 @@ module _ {text : List ℕ} {at : ℕ} {r : code.Lexeme} (s : Seen text at r) whe
   of-what number n h = ap number (sym (s .kind)) ∙ h
 
   pub seen-literal : (v : ℕ) → r .kind ≡ kind.Literal v → s .what ≡ lit v
-  unfolding what-of
-  seen-literal v h = s .is-what ∙ ap (what-of (drop (r .place) text) (r .place)) h
+  unfolding lexeme-of
+  seen-literal v h = s .is-what ∙ ap (lexeme-of (drop (r .place) text) (r .place)) h
 
   pub seen-name : r .kind ≡ kind.Name → s .what ≡ name (name-at text (r .place))
-  unfolding what-of name-at word-at
-  seen-name h = s .is-what ∙ ap (what-of (drop (r .place) text) (r .place)) h
+  unfolding lexeme-of name-at word-at
+  seen-name h = s .is-what ∙ ap (lexeme-of (drop (r .place) text) (r .place)) h
 
   pub seen-string : r .kind ≡ kind.Str → s .what ≡ string (quoted-at text (r .place))
-  unfolding what-of quoted-at
-  seen-string h = s .is-what ∙ ap (what-of (drop (r .place) text) (r .place)) h
+  unfolding lexeme-of quoted-at
+  seen-string h = s .is-what ∙ ap (lexeme-of (drop (r .place) text) (r .place)) h
 
   pub seen-fixed : (w : Fixed) → fixed-number (r .kind) ≡ fixed-code w → s .what ≡ fixed w
   seen-fixed w h = by-sort (sorts (s .what) .a-fixed) (of-what fixed-number (fixed-code w) h)
