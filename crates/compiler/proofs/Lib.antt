@@ -1,9 +1,13 @@
+pub mod Commands
 pub mod Emits
 pub mod Filled
 pub mod Firsts
 pub mod Found
 pub mod Lays
 pub mod Lexed
+pub mod Looked
 pub mod Others
+pub mod Passes
+pub mod Reading
 pub mod Sizes
 pub mod Stores
