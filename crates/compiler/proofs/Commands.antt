@@ -21,7 +21,7 @@ use Rattle.compiler.specs.Lexing.{Lexes}
 use Rattle.compiler.specs.Scopes.{name-at}
 use Rattle.compiler.specs.Steps.{fixed-number}
 use Rattle.compiler.specs.Walks.{Reads, Reads-nested, Reads-when, Reads-while, Reads-block, want-quoted}
-use Rattle.compiler.proofs.Seen.{Seen, quoted-at, seen-name, seen-string, seen-fixed, no-fixed, no-name, no-string}
+use Rattle.compiler.proofs.Looked.{Seen, quoted-at, seen-name, seen-string, seen-fixed, no-fixed, no-name, no-string}
 use Rattle.compiler.proofs.Reading.{from-via, ended, Comes, Stuck, comes-on, comes-stuck, comes-within, stuck-within, alike, onward, none, too-deep, Way, Passed, Barred, comes, passes, stuck, refuses, Leads, leads, begins, refuses-within, Met, Missed}
 use Rattle.compiler.proofs.Passes.{expression-way, condition-way}
 

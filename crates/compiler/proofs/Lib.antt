@@ -1,4 +1,4 @@
-pub mod Seen
+pub mod Looked
 pub mod Reading
 pub mod Passes
 pub mod Commands

@@ -14,7 +14,7 @@ use Rattle.sentence.specs.Reader.{Around, depth, in-first, in-multiply, in-unsi
 use Rattle.sentence.proofs.Walk.{factor-open}
 use Rattle.compiler.specs.Scopes.{name-at}
 use Rattle.compiler.specs.Steps.{fixed-number, sign-number, mul-number, rel-number}
-use Rattle.compiler.proofs.Seen.{Seen, seen-literal, seen-name, seen-fixed, seen-sign, seen-mul, seen-rel, no-fixed, no-lit, no-name, no-sign, no-mul, no-rel}
+use Rattle.compiler.proofs.Looked.{Seen, seen-literal, seen-name, seen-fixed, seen-sign, seen-mul, seen-rel, no-fixed, no-lit, no-name, no-sign, no-mul, no-rel}
 use Rattle.compiler.proofs.Reading.{Comes, comes-on, comes-stuck, comes-within, alike, onward, none, too-deep, Way, Passed, Barred, comes, passes, refuses, Leads, leads, begins, refuses-within, Met, Missed}
 
 -- ---- the ways of the readers

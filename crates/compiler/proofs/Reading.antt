@@ -21,7 +21,7 @@ use Rattle.compiler.specs.declared.walk.Read.the-variants.{Done, Refused
 use Rattle.compiler.specs.Lexing.{Lexes, Clean, Expects}
 use Rattle.compiler.specs.Steps.{fixed-number, sign-number, mul-number, rel-number, moved-to}
 use Rattle.compiler.specs.Walks.{read-via, Passes, Refuses}
-use Rattle.compiler.proofs.Seen.{not-empty, Seen, seen, seen-name, seen-sign, seen-mul, seen-rel, no-fixed}
+use Rattle.compiler.proofs.Looked.{not-empty, Seen, seen, seen-name, seen-sign, seen-mul, seen-rel, no-fixed}
 
 -- ---- one lexeme
 
