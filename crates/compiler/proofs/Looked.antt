@@ -126,29 +126,37 @@ record First (text : List ℕ) (l : Placed) (rest : List Placed) : Type 0 where
   reads : lexeme-of (drop (l .place) text) (l .place) (kind-of (l .what)) ≡ l .what
   alone : is end (l .what) ≡ true → rest ≡ []
 
-first-of : (sizes : Sizes) (text : List ℕ) (at : ℕ) (l : Placed) (rest : List Placed) → Lexes sizes text at (l ∷ rest) → First text l rest
+-- there is always one
+abbrev Firsts : List ℕ → List Placed → Type 0
+Firsts text [] = ⊥
+Firsts text (l ∷ rest) = First text l rest
+
+first-of : (sizes : Sizes) (text : List ℕ) (at : ℕ) (ls : List Placed) → Lexes sizes text at ls → Firsts text ls
 unfolding Lexes lexemes-from next pass lexeme-of kind-of is code-of
-first-of sizes text at l rest h = by-answer (here sizes p (drop p text)) (here-good sizes p (drop p text)) h
+first-of sizes text at ls h = by-answer (here sizes p (drop p text)) (here-good sizes p (drop p text)) h
   where
     p : ℕ
     p = at + length (run separator (drop at text))
 
     after : Placed → Answer (List Placed) → Answer (List Placed)
-    after m a = pass a (λ ls. given (m ∷ ls))
+    after m a = pass a (λ rest. given (m ∷ rest))
 
-    by-rest : (m : Placed) → Told p (drop p text) m → (a : Answer (List Placed)) → after m a ≡ given (l ∷ rest) → First text l rest
-    by-rest m t (given ls) e =
-        let it : m ≡ l = cc in
-        subst (λ (x : Placed). First text x rest) it (record { reads = rw (t .there) (t .reads); alone = λ f. cc (t .going) })
+    by-rest : (m : Placed) → Told p (drop p text) m → (a : Answer (List Placed)) → after m a ≡ given ls → Firsts text ls
+    by-rest m t (given rest) e =
+        let it : m ∷ rest ≡ ls = cc in
+        subst (Firsts text) it (record { reads = rw (t .there) (t .reads); alone = λ f. cc (t .going) })
     by-rest m t (refused n q) e = let z : _≡_ {A = ℕ} 0 1 = cc in absurd (omega arith)
 
     by-answer : (a : Answer Next) → Good p (drop p text) a
-        → pass a (λ n. elim n [ lexeme m e ↦ after m (lexemes-from sizes text (length text) e) | nothing ↦ given (record { place = length text; what = fixed end } ∷ []) ]) ≡ given (l ∷ rest) → First text l rest
+        → pass a (λ n. elim n [ lexeme m e ↦ after m (lexemes-from sizes text (length text) e) | nothing ↦ given (record { place = length text; what = fixed end } ∷ []) ]) ≡ given ls → Firsts text ls
     by-answer (given (lexeme m e)) t q = by-rest m t (lexemes-from sizes text (length text) e) q
     by-answer (given nothing) t q =
-        let it : record { place = length text; what = fixed end } ≡ l = cc in
-        subst (λ (x : Placed). First text x rest) it (record { reads = ap fixed (fixed-back end); alone = λ f. cc })
+        let it : record { place = length text; what = fixed end } ∷ [] ≡ ls = cc in
+        subst (Firsts text) it (record { reads = ap fixed (fixed-back end); alone = λ f. refl })
     by-answer (refused n k) t q = let z : _≡_ {A = ℕ} 0 1 = cc in absurd (omega arith)
+
+pub not-empty : (sizes : Sizes) (text : List ℕ) (at : ℕ) → Lexes sizes text at [] → ⊥
+not-empty sizes text at h = first-of sizes text at [] h
 
 -- the lexemes ls begin with l, at the place p, which ends at e, or is the end of the text
 pub record Begins (sizes : Sizes) (text : List ℕ) (p e : ℕ) (l : Lexeme) (ls : List Placed) : Type 0 where
@@ -186,14 +194,14 @@ seen sizes text at r clean looks =
         rest = t .rest;
         split = t .split ∙ ap (λ (x : Placed). x ∷ t .rest) (λ i. record { place = sym (t .place) i; what = is-it most ls h i });
         more = λ f. on-goes (t .after) (rw (is-it most ls h) f) .1 .1;
-        alone = λ f. first-of most text at (t .first) (t .rest) (rw (t .split) at h) .alone (rw (is-it most ls h) f);
+        alone = λ f. first-of most text at (t .first ∷ t .rest) (rw (t .split) at h) .alone (rw (is-it most ls h) f);
       };
     }
   where
     is-it : (most : Sizes) (ls : List Placed) (h : Lexes most text at ls) → looks most ls h .first .what ≡ lexeme-of (drop (r .place) text) (r .place) (r .kind)
     is-it most ls h =
         let s = looks most ls h in
-        sym (rw (s .kind, s .place) (first-of most text at (s .first) (s .rest) (rw (s .split) at h) .reads))
+        sym (rw (s .kind, s .place) (first-of most text at (s .first ∷ s .rest) (rw (s .split) at h) .reads))
 
 -- ---- a lexeme by its number
 
@@ -239,6 +247,10 @@ module _ {A : Type 0} (make : A → Lexeme) (on : Lexeme → (A → State) → S
   of-zero : (l : Lexeme) → Of-sort make on number l → number (kind-of l) ≡ 0 → (such : A → State) (other : State) → on l such other ≡ other
   of-zero l (inl (y, e)) h = absurd (some y (sym (its y) ∙ ap (λ (z : Lexeme). number (kind-of z)) (sym e) ∙ h))
   of-zero l (inr (z, no-such)) h = no-such
+
+not-of : {A : Type 0} (make : A → Lexeme) (on : Lexeme → (A → State) → State → State) (number : Kind → ℕ) (l : Lexeme) → Of-sort make on number l → ((x : A) → l ≡ make x → ⊥) → (such : A → State) (other : State) → on l such other ≡ other
+not-of make on number l (inl (y, e)) h = absurd (h y e)
+not-of make on number l (inr (z, no-such)) h = no-such
 
 no-sign-0 : (g : Sign) → sign-code g ≡ 0 → ⊥
 unfolding sign-code
@@ -295,25 +307,16 @@ module _ {text : List ℕ} {at : ℕ} {r : code.Lexeme} (s : Seen text at r) whe
       by-sort (inr (z, no-such)) = no-such w
 
   pub no-lit : ((v : ℕ) → r .kind ≡ kind.Literal v → ⊥) → (such : ℕ → State) (other : State) → on-lit (s .what) such other ≡ other
-  no-lit h = by-sort (sorts (s .what) .a-lit)
-    where
-      by-sort : Of-sort lit on-lit zero-number (s .what) → (such : ℕ → State) (other : State) → on-lit (s .what) such other ≡ other
-      by-sort (inl (v, e)) = absurd (h v (s .kind ∙ ap kind-of e ∙ (unfold kind-of in refl)))
-      by-sort (inr (z, no-such)) = no-such
+  unfolding kind-of
+  no-lit h = not-of lit on-lit zero-number (s .what) (sorts (s .what) .a-lit) (λ v e. h v (s .kind ∙ ap kind-of e))
 
   pub no-name : (r .kind ≡ kind.Name → ⊥) → (such : Name → State) (other : State) → on-name (s .what) such other ≡ other
-  no-name h = by-sort (sorts (s .what) .a-name)
-    where
-      by-sort : Of-sort name on-name zero-number (s .what) → (such : Name → State) (other : State) → on-name (s .what) such other ≡ other
-      by-sort (inl (v, e)) = absurd (h (s .kind ∙ ap kind-of e ∙ (unfold kind-of in refl)))
-      by-sort (inr (z, no-such)) = no-such
+  unfolding kind-of
+  no-name h = not-of name on-name zero-number (s .what) (sorts (s .what) .a-name) (λ x e. h (s .kind ∙ ap kind-of e))
 
   pub no-string : (r .kind ≡ kind.Str → ⊥) → (such : Quoted → State) (other : State) → on-string (s .what) such other ≡ other
-  no-string h = by-sort (sorts (s .what) .a-string)
-    where
-      by-sort : Of-sort string on-string zero-number (s .what) → (such : Quoted → State) (other : State) → on-string (s .what) such other ≡ other
-      by-sort (inl (v, e)) = absurd (h (s .kind ∙ ap kind-of e ∙ (unfold kind-of in refl)))
-      by-sort (inr (z, no-such)) = no-such
+  unfolding kind-of
+  no-string h = not-of string on-string zero-number (s .what) (sorts (s .what) .a-string) (λ q e. h (s .kind ∙ ap kind-of e))
 
   pub seen-sign : (g : Sign) → sign-number (r .kind) ≡ sign-code g → s .what ≡ sign g
   unfolding sign-number kind-of

@@ -9,9 +9,9 @@ use native.Mathlib.Omega.{arith}
 use borrow.Author.Tests.{lt-ltb, le-ltb}
 use lib.Dec.{ltb}
 use lib.ListN.{length}
-use Rattle.lexeme.specs.Answers.{Answer, given, refused, pass}
+use Rattle.lexeme.specs.Answers.{Answer, given, refused}
 use Rattle.lexeme.specs.Coded.{sign-code, mul-code, rel-code, code-of}
-use Rattle.lexeme.specs.Lexemes.{Name, Lexeme, Sign, Mul, Rel, Next, lexeme, nothing, fixed, end, Placed, Sizes, next, lexemes-from}
+use Rattle.lexeme.specs.Lexemes.{Name, Lexeme, Sign, Mul, Rel, end, Placed, Sizes}
 use Rattle.lexeme.specs.declared.Kind.the-variants as kind
 use Rattle.lexeme.specs.declared.Lexeme as code
 use Rattle.sentence.specs.Sentences.{Kind, Sen, command}
@@ -21,7 +21,7 @@ use Rattle.compiler.specs.declared.walk.Read.the-variants.{Done, Refused
 use Rattle.compiler.specs.Lexing.{Lexes, Clean, Expects}
 use Rattle.compiler.specs.Steps.{fixed-number, sign-number, mul-number, rel-number, moved-to}
 use Rattle.compiler.specs.Walks.{read-via, Passes, Refuses}
-use Rattle.compiler.proofs.Looked.{Seen, seen, seen-name, seen-sign, seen-mul, seen-rel, no-fixed}
+use Rattle.compiler.proofs.Looked.{not-empty, Seen, seen, seen-name, seen-sign, seen-mul, seen-rel, no-fixed}
 
 -- ---- one lexeme
 
@@ -68,26 +68,9 @@ module _ (limit : ℕ) (l : Placed) (ls : List Placed) where
   via-deep : (f : Lexeme → State) (s : State) → f (l .what) ≡ s → Deep limit (verdict s) → read-via limit f (l ∷ ls) ≡ refused 5 (l .place)
   via-deep f s e h = via f s e ∙ settled-deep s (verdict s) h
 
--- there is always a lexeme, or the end
-not-empty : {A : Type 0} (sizes : Sizes) (text : List ℕ) (at : ℕ) → Lexes sizes text at [] → A
-unfolding Lexes lexemes-from pass
-not-empty {A} sizes text at h = by-answer (next sizes text at) h
-  where
-    after : Placed → Answer (List Placed) → Answer (List Placed)
-    after m a = pass a (λ ls. given (m ∷ ls))
-
-    by-rest : (m : Placed) (a : Answer (List Placed)) → after m a ≡ given [] → A
-    by-rest m (given ls) e = let z : _≡_ {A = ℕ} 0 1 = cc in absurd (omega arith)
-    by-rest m (refused n q) e = let z : _≡_ {A = ℕ} 0 1 = cc in absurd (omega arith)
-
-    by-answer : (a : Answer Next) → pass {B = List Placed} a (λ n. elim n [ lexeme m e ↦ after m (lexemes-from sizes text (length text) e) | nothing ↦ given (record { place = length text; what = fixed end } ∷ []) ]) ≡ given [] → A
-    by-answer (given (lexeme m e)) q = by-rest m (lexemes-from sizes text (length text) e) q
-    by-answer (given nothing) q = let z : _≡_ {A = ℕ} 0 1 = cc in absurd (omega arith)
-    by-answer (refused n k) q = let z : _≡_ {A = ℕ} 0 1 = cc in absurd (omega arith)
-
 pub from-via : (sizes : Sizes) (text : List ℕ) (at limit : ℕ) (s : State) (ls : List Placed) → Lexes sizes text at ls → read-from limit s ls ≡ read-via limit (step s) ls
 unfolding read-from read-via
-from-via sizes text at limit s [] h = not-empty sizes text at h
+from-via sizes text at limit s [] h = absurd (not-empty sizes text at h)
 from-via sizes text at limit s (l ∷ ls) h = refl
 
 -- ---- from place to place
