@@ -1,0 +1,132 @@
+// Texts at the limits, put together from pieces.
+ghost use Prim.Native.Nat.{_≤_};
+ghost use lib.ListN.{length};
+use compiler::Answer;
+use libc::STDOUT_FILENO;
+
+// The place after a piece that was put at a place, as far as the text has room.
+fn add(text: &mut [u8], at: usize, piece: &[u8]) -> usize
+    requires { ⌜ at ≤ length (now text) ⌝ }
+    ensures { λ r. ⌜ r ≤ length (now (text .exit)) ⌝ }
+{
+    let mut e = at;
+    let mut i = 0;
+    while i < piece.len() {
+        if e < text.len() {
+            text[e] = piece[i];
+            e += 1;
+        }
+        i += 1;
+    }
+    e
+}
+
+fn many(text: &mut [u8], at: usize, piece: &[u8], n: usize) -> usize
+    requires { ⌜ at ≤ length (now text) ⌝ }
+    ensures { λ r. ⌜ r ≤ length (now (text .exit)) ⌝ }
+{
+    let mut e = at;
+    let mut i = 0;
+    while i < n {
+        e = add(text, e, piece);
+        i += 1;
+    }
+    e
+}
+
+// The answer to a text, with so many numbers lent.
+fn judge(text: &[u8], table: &mut [i32]) {
+    let a = compiler::compile(text, table);
+    match a {
+        Answer::Accepted(n, cells, need) => lines::accepted(STDOUT_FILENO, n, cells, need),
+        Answer::Refused(n, p) => {
+            lines::refused(STDOUT_FILENO, n, p);
+            if 0 < crate::listings::dirty(table, 0) {
+                io::write_all(STDOUT_FILENO, b"the table is not clean\n");
+            }
+        }
+    }
+}
+
+// `open` so many times, the middle, and `close` as often.
+fn nested(first: &[u8], open: &[u8], n: usize, middle: &[u8], close: &[u8]) {
+    let mut text = [0u8; 16385];
+    let e = add(&mut text, 0, first);
+    let e = many(&mut text, e, open, n);
+    let e = add(&mut text, e, middle);
+    let e = many(&mut text, e, close, n);
+    let mut table = [7i32; 8192];
+    judge(&text[..e], &mut table);
+}
+
+fn nestings() {
+    io::write_all(STDOUT_FILENO, b"32 and 33 nestings\n");
+    nested(b"DO PRINTI ", b"(", 32, b"1", b")");
+    nested(b"DO PRINTI ", b"(", 33, b"1", b")");
+    nested(b"DO ", b"{", 32, b"ERROR", b"}");
+    nested(b"DO ", b"{", 33, b"ERROR", b"}");
+    nested(b"DO ", b"IF 1<2 THEN ", 32, b"ERROR", b"");
+    nested(b"DO ", b"IF 1<2 THEN ", 33, b"ERROR", b"");
+    nested(b"DO ", b"WHILE 1<2 DO ", 32, b"ERROR", b"");
+    nested(b"DO ", b"WHILE 1<2 DO ", 33, b"ERROR", b"");
+}
+
+fn more_nestings() {
+    nested(b"DO IF ", b"NOT ", 31, b"1<2 THEN ERROR", b"");
+    nested(b"DO IF ", b"NOT ", 32, b"1<2 THEN ERROR", b"");
+    nested(b"DO ", b"{IF NOT 1<(2) THEN ", 15, b"ERROR", b"}");
+    nested(b"DO ", b"{IF NOT 1<(2) THEN ", 16, b"ERROR", b"}");
+    nested(b"DO ", b"{IF 1<2 THEN ", 16, b"ERROR", b"}");
+    nested(b"DO ", b"{IF 1<2 THEN ", 16, b"PRINTI (1)", b"}");
+    nested(b"DO ", b"{IF 1<2 THEN ", 16, b"PRINTI )", b"}");
+}
+
+fn declarations() {
+    io::write_all(STDOUT_FILENO, b"64 and 65 declarations\n");
+    nested(b"DO {", b"INT n ", 64, b"}", b"");
+    nested(b"DO {", b"INT n ", 65, b"}", b"");
+    nested(b"DO {", b"{INT n} ", 65, b"}", b"");
+    nested(b"DO {", b"INT n ", 65, b"m:=1}", b"");
+    nested(b"DO {m:=1 ", b"INT n ", 65, b"}", b"");
+}
+
+fn instructions() {
+    io::write_all(STDOUT_FILENO, b"4,096 and 4,097 instructions\n");
+    nested(b"DO PRINTI -1", b"+1", 2046, b"", b"");
+    nested(b"DO PRINTI 1", b"+1", 2047, b"", b"");
+    nested(b"DO PRINTI n", b"+1", 2047, b"", b"");
+}
+
+fn lengths() {
+    io::write_all(
+        STDOUT_FILENO,
+        b"16,384 and 16,385 bytes; names of 32 and 33 letters\n",
+    );
+    nested(b"DO ERROR", b" ", 16376, b"", b"");
+    nested(b"DO ERROR", b" ", 16377, b"", b"");
+    nested(b";", b" ", 16384, b"", b"");
+    nested(b"DO INT ", b"n", 32, b"", b"");
+    nested(b"DO INT ", b"n", 33, b"", b"");
+}
+
+// One text and tables of several lengths: 5 pairs are wanted.
+fn tables() {
+    io::write_all(STDOUT_FILENO, b"tables of 11, 10, 9, 8, 1 and 0 numbers\n");
+    let mut table = [7i32; 11];
+    judge(b"DO PRINTI 2 - 5", &mut table);
+    judge(b"DO PRINTI 2 - 5", &mut table[..10]);
+    judge(b"DO PRINTI 2 - 5", &mut table[..9]);
+    judge(b"DO PRINTI 2 - 5", &mut table[..8]);
+    judge(b"DO PRINTI 2 - 5", &mut table[..1]);
+    judge(b"DO PRINTI 2 - 5", &mut table[..0]);
+    judge(b"DO PRINTI n", &mut table[..0]);
+}
+
+pub fn all() {
+    nestings();
+    more_nestings();
+    declarations();
+    instructions();
+    lengths();
+    tables();
+}

@@ -1,0 +1,11 @@
+// Texts of every kind through the compiler: document 01's examples and edges, two faults in either order, document 001's programs.
+
+mod edges;
+mod faults;
+mod listings;
+
+fn main() {
+    listings::all();
+    edges::all();
+    faults::all();
+}
