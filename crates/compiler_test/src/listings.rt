@@ -2,16 +2,6 @@
 use compiler::Answer;
 use libc::STDOUT_FILENO;
 
-fn instructions(table: &[i32], n: usize) {
-    let mut i = 0;
-    while i < n {
-        if i < table.len() / 2 {
-            lines::instruction(STDOUT_FILENO, i, table[i * 2], table[i * 2 + 1]);
-        }
-        i += 1;
-    }
-}
-
 // How many numbers of the table are not 0 from a place on.
 pub fn dirty(table: &[i32], from: usize) -> usize {
     let mut n = 0;
@@ -40,7 +30,7 @@ pub fn list(text: &[u8]) {
     match a {
         Answer::Accepted(n, cells, need) => {
             lines::accepted(STDOUT_FILENO, n, cells, need);
-            instructions(&table, n);
+            lines::listing(STDOUT_FILENO, &table, n);
             if n < 5000 {
                 left(&table, n * 2);
             }
