@@ -9,5 +9,6 @@ pub mod Looked
 pub mod Others
 pub mod Passes
 pub mod Reading
+pub mod Returns
 pub mod Sizes
 pub mod Stores
