@@ -1,5 +1,7 @@
+pub mod Bodies
 pub mod Commands
 pub mod Emits
+pub mod Expected
 pub mod Filled
 pub mod Firsts
 pub mod Found
@@ -9,6 +11,5 @@ pub mod Looked
 pub mod Others
 pub mod Passes
 pub mod Reading
-pub mod Returns
 pub mod Sizes
 pub mod Stores

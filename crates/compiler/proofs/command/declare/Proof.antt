@@ -13,7 +13,8 @@ use Rattle.compiler.specs.Walks.{Reads}
 use Rattle.compiler.proofs.Commands.{name-declared, none-declared}
 use Rattle.compiler.proofs.Lays.{lays-declare, declared-beside}
 use Rattle.compiler.proofs.Looked.{seen}
-use Rattle.compiler.proofs.Returns.{place-inside, not-name}
+use Rattle.compiler.proofs.Expected.{place-inside}
+use Rattle.compiler.proofs.Others.{not-name}
 use Rattle.compiler.proofs.Stores.{count-fits}
 use Rattle.compiler.proofs.command.declare.Statement.{statement}
 use Rattle.compiler.proofs.command.declare.Tie as tie

@@ -13,7 +13,8 @@ use Rattle.compiler.specs.Walks.{Reads}
 use Rattle.compiler.proofs.Commands.{line-printed, string-printed, no-quoted}
 use Rattle.compiler.proofs.Lays.{lays-print-line, lays-print-string}
 use Rattle.compiler.proofs.Looked.{seen, quoted-at}
-use Rattle.compiler.proofs.Returns.{place-inside, not-string}
+use Rattle.compiler.proofs.Expected.{place-inside}
+use Rattle.compiler.proofs.Others.{not-string}
 use Rattle.compiler.proofs.Stores.{count-fits}
 use Rattle.compiler.proofs.command.print_string.Statement.{statement}
 use Rattle.compiler.proofs.command.print_string.Tie as tie

@@ -9,7 +9,7 @@ use Rattle.compiler.specs.Walks.{Reads}
 use Rattle.compiler.proofs.Commands.{name-read, none-read}
 use Rattle.compiler.proofs.Lays.{lays-input, noted-beside}
 use Rattle.compiler.proofs.Looked.{seen}
-use Rattle.compiler.proofs.Returns.{not-name}
+use Rattle.compiler.proofs.Others.{not-name}
 use Rattle.compiler.proofs.command.read.Statement.{statement}
 use Rattle.compiler.proofs.command.read.Tie as tie
 
