@@ -291,11 +291,11 @@ module _ (text names : List ℕ) (w : Walk) where
         by Nowhere e false f = unfold noted-walk faulted-walk in refuses (w .fault) (w .place) (pass-faulted (used (name-at text place)) f) (rw f (stand-faulted f))
 
 -- the walks differ in their refusals at most
-record Beside (w v : Walk) : Type 0 where
-  at : v .at ≡ w .at
-  code : v .code ≡ w .code
-  need : v .need ≡ w .need
-  declared : v .declared ≡ w .declared
+pub record Beside (w v : Walk) : Type 0 where
+  pub at : v .at ≡ w .at
+  pub code : v .code ≡ w .code
+  pub need : v .need ≡ w .need
+  pub declared : v .declared ≡ w .declared
 
 beside-itself : (w : Walk) → Beside w w
 beside-itself w = record { at = refl; code = refl; need = refl; declared = refl }
@@ -308,7 +308,7 @@ faulted-beside w n p = by (eqb (w .fault) 0)
     by true = record { at = refl; code = refl; need = refl; declared = refl }
     by false = beside-itself w
 
-noted-beside : (c : Cell) (w : Walk) (p : ℕ) → Beside w (noted-walk c w p)
+pub noted-beside : (c : Cell) (w : Walk) (p : ℕ) → Beside w (noted-walk c w p)
 unfolding noted-walk
 noted-beside (At k) w p = beside-itself w
 noted-beside Nowhere w p = faulted-beside w 6 p
@@ -376,14 +376,14 @@ module _ (text names : List ℕ) (w : Walk) (place : ℕ) where
       by true = record { count = length-set names (w .declared) (place + 1); entries = λ i h. getD-set-other names (w .declared) i (place + 1) 0 (omega arith) }
       by false = kept-all (w .declared) names
 
-  record Declared (v : Walk) : Type 0 where
-    at : v .at ≡ w .at
-    code : v .code ≡ w .code
-    need : v .need ≡ w .need
-    more : w .declared ≤ v .declared
-    room : v .declared ≤ length names
+  pub record Declared (v : Walk) : Type 0 where
+    pub at : v .at ≡ w .at
+    pub code : v .code ≡ w .code
+    pub need : v .need ≡ w .need
+    pub more : w .declared ≤ v .declared
+    pub room : v .declared ≤ length names
 
-  declared-beside : w .declared ≤ length names → Declared (declared-walk (length names) w place)
+  pub declared-beside : w .declared ≤ length names → Declared (declared-walk (length names) w place)
   unfolding declared-walk
   declared-beside h = by (ltb (w .declared) (length names)) refl
     where

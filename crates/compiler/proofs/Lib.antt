@@ -1,5 +1,7 @@
+pub mod Bodies
 pub mod Commands
 pub mod Emits
+pub mod Expected
 pub mod Filled
 pub mod Firsts
 pub mod Found

@@ -1,6 +1,6 @@
 -- A kind of lexeme that is not the one asked for has the number for none. Assumes nothing.
 use Prim.Native.Nat.{ℕ}
-use mathlib.Core.Path.{_≡_, refl}
+use mathlib.Core.Path.{_≡_, refl, subst}
 use mathlib.Core.List.{List, [], _∷_}
 use types.Run.{OneOf, miss}
 use denote.Enum.Declared.{tagOf}
@@ -20,6 +20,20 @@ not-rel = 0 ∷ 1 ∷ 2 ∷ 3 ∷ 4 ∷ 5 ∷ 7 ∷ []
 
 abbrev not-fixed : List ℕ
 not-fixed = 0 ∷ 1 ∷ 2 ∷ 3 ∷ 4 ∷ 5 ∷ 6 ∷ []
+
+-- a lexeme that is not a name, or not a string
+abbrev not-named : List ℕ
+not-named = 0 ∷ 2 ∷ 3 ∷ 4 ∷ 5 ∷ 6 ∷ 7 ∷ []
+
+abbrev not-quoted : List ℕ
+not-quoted = 0 ∷ 1 ∷ 2 ∷ 4 ∷ 5 ∷ 6 ∷ 7 ∷ []
+
+module _ {k : Kind} where
+  pub not-name : OneOf not-named (tagOf the-type k) → k ≡ Name → ⊥
+  not-name t e = miss not-named 1 tt (subst (λ x. OneOf not-named (tagOf the-type x)) e t)
+
+  pub not-string : OneOf not-quoted (tagOf the-type k) → k ≡ Str → ⊥
+  not-string t e = miss not-quoted 3 tt (subst (λ x. OneOf not-quoted (tagOf the-type x)) e t)
 
 pub record Others (k : Kind) : Type 0 where
   pub of-sign : OneOf not-sign (tagOf the-type k) → 0 ≡ sign-number k

@@ -1,0 +1,686 @@
+-- The readers of commands with bodies meet their contracts. A nesting less is allowed inside, so the calls end. Assumes nothing.
+use Prim.Native.Nat.{ℕ, _+_, _*_, _-_, _<_}
+use mathlib.Core.Path.{_≡_, refl, sym, _∙_}
+use mathlib.Core.List.{List, [], _∷_}
+use native.Mathlib.Nat.{le-refl}
+use native.Mathlib.Omega.{arith}
+use borrow.Author.Needs.{needs}
+use borrow.Author.Tests.{ne-eqb}
+use types.Run.{miss}
+use mir.Facts.{toZ-ofZ}
+use lib.IntN.{ℤ}
+use lib.ListN.{length}
+use Rattle.sentence.specs.Sentences.{error}
+use Rattle.compiler.specs.Steps.{moved-to, one-more, needing}
+use Rattle.compiler.specs.Walks.{Reads, Reads-nested}
+use Rattle.compiler.proofs.Bodies.{seen-first, past-fixed, past-name, reads-past, headed, head-small, ready-headed, body-small, when-read, while-read, So-far, so-far-one, ready-so-far, so-far-later, so-far-more, so-far-closed}
+use Rattle.compiler.proofs.Commands.{when-leads, while-leads, block-more, when-refused, while-refused, no-then, no-do, block-first, reads-nested, error-read, assign-begins, declare-begins, print-begins, line-begins, string-begins, read-begins, nested-begins, nested-too-deep, no-command}
+use Rattle.compiler.proofs.Lays.{lays-error}
+use Rattle.compiler.proofs.Looked.{seen}
+use Rattle.compiler.proofs.Reading.{missed, clean-passed}
+use Rattle.compiler.proofs.Expected.{ready-past}
+use Rattle.compiler.proofs.Others.{not-name}
+use Rattle.compiler.proofs.Stores.{count-fits}
+use borrow.Fn.Kinds.{In}
+use borrow.Fn.PlainCycle.{Measures, is, falls, and}
+use Rattle.compiler.proofs.command.block.Reads as block
+use Rattle.compiler.proofs.command.block.Kinds as block-kinds
+use Rattle.compiler.proofs.command.+block+command+if_command+nested+while_command.Lts-block as block-lts
+use Rattle.compiler.proofs.command.command.Reads as command
+use Rattle.compiler.proofs.command.command.Kinds as command-kinds
+use Rattle.compiler.proofs.command.+block+command+if_command+nested+while_command.Lts-command as command-lts
+use Rattle.compiler.proofs.command.if_command.Reads as if-command
+use Rattle.compiler.proofs.command.if_command.Kinds as if-command-kinds
+use Rattle.compiler.proofs.command.+block+command+if_command+nested+while_command.Lts-if_command as if-command-lts
+use Rattle.compiler.proofs.command.nested.Reads as nested
+use Rattle.compiler.proofs.command.nested.Kinds as nested-kinds
+use Rattle.compiler.proofs.command.+block+command+if_command+nested+while_command.Lts-nested as nested-lts
+use Rattle.compiler.proofs.command.while_command.Reads as while-command
+use Rattle.compiler.proofs.command.while_command.Kinds as while-command-kinds
+use Rattle.compiler.proofs.command.+block+command+if_command+nested+while_command.Lts-while_command as while-command-lts
+use Rattle.compiler.proofs.command.assign.Reads as assign-reads
+use Rattle.compiler.proofs.command.declare.Reads as declare-reads
+use Rattle.compiler.proofs.command.print_int.Reads as print-int-reads
+use Rattle.compiler.proofs.command.print_string.Reads as print-string-reads
+use Rattle.compiler.proofs.command.read.Reads as read-reads
+use Rattle.compiler.proofs.expression.condition.Reads as condition-reads
+use Rattle.compiler.proofs.scope.close.Reads as close-reads
+use Rattle.compiler.proofs.seen.expect.Reads as expect-reads
+use Rattle.compiler.proofs.seen.fixed_of.Reads as fixed-of-reads
+use Rattle.compiler.proofs.seen.look.Reads as look-reads
+use Rattle.compiler.proofs.walk.emitted.Reads as emitted-reads
+use Rattle.compiler.proofs.walk.larger.Reads as larger-reads
+use Rattle.compiler.proofs.walk.moved.Reads as moved-reads
+use Rattle.compiler.proofs.walk.put.Reads as put-reads
+use Rattle.compiler.proofs.walk.skipped.Reads as skipped-reads
+use Rattle.compiler.proofs.walk.with_need.Reads as with-need-reads
+use Rattle.compiler.proofs.command.+block+command+if_command+nested+while_command.{
+  statement,
+}
+use Rattle.compiler.proofs.command.+block+command+if_command+nested+while_command.Tie.{
+  close,
+}
+
+abbrev μ-block : Measures 3 block-kinds.ps ℕ
+μ-block κs a = a .1 .1 .1 .1 .0 * 3 + 1
+
+abbrev μ-command : Measures 3 command-kinds.ps ℕ
+μ-command κs a = a .1 .1 .1 .1 .0 * 3
+
+abbrev μ-if-command : Measures 3 if-command-kinds.ps ℕ
+μ-if-command κs a = a .1 .1 .1 .1 .0 * 3 + 1
+
+abbrev μ-nested : Measures 3 nested-kinds.ps ℕ
+μ-nested κs a = a .1 .1 .1 .1 .1 .0 * 3 + 2
+
+abbrev μ-while-command : Measures 3 while-command-kinds.ps ℕ
+μ-while-command κs a = a .1 .1 .1 .1 .0 * 3 + 1
+
+abbrev block-at : ℕ → In 3 block-kinds.ps
+block-at t = and 3 block-kinds.ps (is 3 block-kinds.ps μ-block t) block.Pre
+
+abbrev block-below : ℕ → In 3 block-kinds.ps
+block-below t = and 3 block-kinds.ps (falls 3 block-kinds.ps _<_ μ-block t) block.Pre
+
+abbrev command-at : ℕ → In 3 command-kinds.ps
+command-at t = and 3 command-kinds.ps (is 3 command-kinds.ps μ-command t) command.Pre
+
+abbrev command-below : ℕ → In 3 command-kinds.ps
+command-below t = and 3 command-kinds.ps (falls 3 command-kinds.ps _<_ μ-command t) command.Pre
+
+abbrev if-command-at : ℕ → In 3 if-command-kinds.ps
+if-command-at t =
+    and 3 if-command-kinds.ps (is 3 if-command-kinds.ps μ-if-command t) if-command.Pre
+
+abbrev if-command-below : ℕ → In 3 if-command-kinds.ps
+if-command-below t =
+    and 3 if-command-kinds.ps (falls 3 if-command-kinds.ps _<_ μ-if-command t) if-command.Pre
+
+abbrev nested-at : ℕ → In 3 nested-kinds.ps
+nested-at t = and 3 nested-kinds.ps (is 3 nested-kinds.ps μ-nested t) nested.Pre
+
+abbrev nested-below : ℕ → In 3 nested-kinds.ps
+nested-below t = and 3 nested-kinds.ps (falls 3 nested-kinds.ps _<_ μ-nested t) nested.Pre
+
+abbrev while-command-at : ℕ → In 3 while-command-kinds.ps
+while-command-at t =
+    and 3 while-command-kinds.ps (is 3 while-command-kinds.ps μ-while-command t) while-command.Pre
+
+abbrev while-command-below : ℕ → In 3 while-command-kinds.ps
+while-command-below t =
+    and
+    3
+    while-command-kinds.ps
+    (falls 3 while-command-kinds.ps _<_ μ-while-command t)
+    while-command.Pre
+
+abbrev block-claims : ℕ → block-lts.Claims
+block-claims t = (command-below t, command.Post, look-reads.Asked, look-reads.Learnt, fixed-of-reads.Asked, fixed-of-reads.Learnt, close-reads.Asked, close-reads.Learnt, moved-reads.Asked, moved-reads.Learnt, larger-reads.Asked, larger-reads.Learnt, with-need-reads.Asked, with-need-reads.Learnt)
+
+abbrev command-claims : ℕ → command-lts.Claims
+command-claims t = (look-reads.Asked, look-reads.Learnt, moved-reads.Asked, moved-reads.Learnt, assign-reads.Asked, assign-reads.Learnt, fixed-of-reads.Asked, fixed-of-reads.Learnt, emitted-reads.Asked, emitted-reads.Learnt, declare-reads.Asked, declare-reads.Learnt, print-int-reads.Asked, print-int-reads.Learnt, print-string-reads.Asked, print-string-reads.Learnt, read-reads.Asked, read-reads.Learnt, nested-below t, nested.Post)
+
+abbrev if-command-claims : ℕ → if-command-lts.Claims
+if-command-claims t = (condition-reads.Asked, condition-reads.Learnt, expect-reads.Asked, expect-reads.Learnt, skipped-reads.Asked, skipped-reads.Learnt, command-below t, command.Post, put-reads.Asked, put-reads.Learnt, larger-reads.Asked, larger-reads.Learnt, with-need-reads.Asked, with-need-reads.Learnt)
+
+abbrev nested-claims : ℕ → nested-lts.Claims
+nested-claims t = (if-command-below t, if-command.Post, while-command-below t, while-command.Post, block-below t, block.Post)
+
+abbrev while-command-claims : ℕ → while-command-lts.Claims
+while-command-claims t = (condition-reads.Asked, condition-reads.Learnt, expect-reads.Asked, expect-reads.Learnt, skipped-reads.Asked, skipped-reads.Learnt, command-below t, command.Post, put-reads.Asked, put-reads.Learnt, larger-reads.Asked, larger-reads.Learnt, emitted-reads.Asked, emitted-reads.Learnt)
+
+abbrev block-Inv-loop : block-lts.InvT-loop
+block-Inv-loop text names₀ table₀ w allow done₀ names table done = (length names ≡ length names₀) × (length table ≡ length table₀) × ((names₁ : List ℕ) (table₁ : List ℤ) → So-far text names₁ table₁ w allow names₀ table₀ done₀ → So-far text names₁ table₁ w allow names table done)
+
+abbrev block-μ-loop : block-lts.MeasureT-loop
+block-μ-loop text names₀ table₀ w allow done₀ names table done = length text - done .at
+
+block-command-requires : (t : ℕ) → block-lts.Need-command-requires (block-claims t) (block-at t) block.Post block-Inv-loop block-μ-loop
+block-command-requires t c κs = (omega (arith, c .before .before .before .before .pre .0), c .before .before .before .before .pre .1)
+
+block-enum-known-first : (t : ℕ) → block-lts.Need-enum-known-first (block-claims t) (block-at t) block.Post block-Inv-loop block-μ-loop
+block-enum-known-first t c = search needs
+
+block-enum-told : (t : ℕ) → block-lts.Need-enum-told (block-claims t) (block-at t) block.Post block-Inv-loop block-μ-loop
+block-enum-told t c = search needs
+
+block-same-length : (t : ℕ) → block-lts.Need-same-length (block-claims t) (block-at t) block.Post block-Inv-loop block-μ-loop
+block-same-length t c = search needs
+
+block-same-length-2 : (t : ℕ) → block-lts.Need-same-length-2 (block-claims t) (block-at t) block.Post block-Inv-loop block-μ-loop
+block-same-length-2 t c = search needs
+
+block-returns : (t : ℕ) → block-lts.Need-returns (block-claims t) (block-at t) block.Post block-Inv-loop block-μ-loop
+unfolding Reads
+block-returns t c = rw (c .enum-told .given .1) (block-first _ _ _ .refuses _ _ (rw (c .enum-told .given .1) at (c .before .before .before .before .before .command .ensures)))
+
+block-loop-holds : (t : ℕ) → block-lts.Need-loop-holds (block-claims t) (block-at t) block.Post block-Inv-loop block-μ-loop
+block-loop-holds t c = (refl, refl, λ names₁ table₁ x. x)
+
+block-look-requires : (t : ℕ) → block-lts.Need-look-requires (block-claims t) (block-at t) block.Post block-Inv-loop block-μ-loop
+block-look-requires t c κs = ready-so-far (c .before .before .before .before .before .before .before .before .before .before .before .before .pre .1) (c .loop .inv .2 _ _ (so-far-one (c .before .before .first .given .1) (c .before .before .before .before .before .before .before .command .ensures))) .clean
+
+block-fixed-of-requires : (t : ℕ) → block-lts.Need-fixed-of-requires (block-claims t) (block-at t) block.Post block-Inv-loop block-μ-loop
+block-fixed-of-requires t c κs = search needs
+
+block-close-requires : (t : ℕ) → block-lts.Need-close-requires (block-claims t) (block-at t) block.Post block-Inv-loop block-μ-loop
+block-close-requires t c κs = let b = (c .before .before .before .before .loop .inv .2 _ _ (so-far-one (c .before .before .before .before .before .before .first .given .1) (c .before .before .before .before .before .before .before .before .before .before .before .command .ensures))) in (b .laid .small .declared, omega (arith, b .laid .small .room, b .laid .kept .count))
+
+block-moved-requires : (t : ℕ) → block-lts.Need-moved-requires (block-claims t) (block-at t) block.Post block-Inv-loop block-μ-loop
+block-moved-requires t c κs = search needs
+
+block-same-length-3 : (t : ℕ) → block-lts.Need-same-length-3 (block-claims t) (block-at t) block.Post block-Inv-loop block-μ-loop
+block-same-length-3 t c = search needs
+
+block-same-length-4 : (t : ℕ) → block-lts.Need-same-length-4 (block-claims t) (block-at t) block.Post block-Inv-loop block-μ-loop
+block-same-length-4 t c = search needs
+
+block-returns-2 : (t : ℕ) → block-lts.Need-returns-2 (block-claims t) (block-at t) block.Post block-Inv-loop block-μ-loop
+block-returns-2 t c = rw (c .moved .ensures, c .before .before .before .close .ensures) (so-far-closed (c .before .before .before .before .before .before .before .before .loop .inv .2 _ _ (so-far-one (c .before .before .before .before .before .before .before .before .before .before .first .given .1) (c .before .before .before .before .before .before .before .before .before .before .before .before .before .before .before .command .ensures))) (seen _ _ _ _ (ready-so-far (c .before .before .before .before .before .before .before .before .before .before .before .before .before .before .before .before .before .before .before .before .pre .1) (c .before .before .before .before .before .before .before .before .loop .inv .2 _ _ (so-far-one (c .before .before .before .before .before .before .before .before .before .before .first .given .1) (c .before .before .before .before .before .before .before .before .before .before .before .before .before .before .before .command .ensures))) .clean) (c .before .before .before .before .before .before .before .look .ensures)) (c .before .before .before .before .before .before .fixed-of .ensures) (c .before .before .before .before .before .if1 .taken))
+
+block-command-requires-2 : (t : ℕ) → block-lts.Need-command-requires-2 (block-claims t) (block-at t) block.Post block-Inv-loop block-μ-loop
+block-command-requires-2 t c κs = (omega (arith, c .before .before .before .before .before .before .before .before .before .before .before .before .before .before .before .before .before .pre .0), ready-so-far (c .before .before .before .before .before .before .before .before .before .before .before .before .before .before .before .before .before .pre .1) (c .before .before .before .before .before .loop .inv .2 _ _ (so-far-one (c .before .before .before .before .before .before .before .first .given .1) (c .before .before .before .before .before .before .before .before .before .before .before .before .command .ensures))))
+
+block-enum-known-r : (t : ℕ) → block-lts.Need-enum-known-r (block-claims t) (block-at t) block.Post block-Inv-loop block-μ-loop
+block-enum-known-r t c = search needs
+
+block-enum-told-2 : (t : ℕ) → block-lts.Need-enum-told-2 (block-claims t) (block-at t) block.Post block-Inv-loop block-μ-loop
+block-enum-told-2 t c = search needs
+
+block-same-length-5 : (t : ℕ) → block-lts.Need-same-length-5 (block-claims t) (block-at t) block.Post block-Inv-loop block-μ-loop
+block-same-length-5 t c = search needs
+
+block-same-length-6 : (t : ℕ) → block-lts.Need-same-length-6 (block-claims t) (block-at t) block.Post block-Inv-loop block-μ-loop
+block-same-length-6 t c = search needs
+
+block-returns-3 : (t : ℕ) → block-lts.Need-returns-3 (block-claims t) (block-at t) block.Post block-Inv-loop block-μ-loop
+unfolding Reads
+block-returns-3 t c = rw (c .enum-told2 .given .1) (block-more _ _ ((c .before .before .before .before .before .before .before .before .before .before .before .loop .inv .2 _ _ (so-far-one (c .before .before .before .before .before .before .before .before .before .before .before .before .before .first .given .1) (c .before .before .before .before .before .before .before .before .before .before .before .before .before .before .before .before .before .before .command .ensures))) .passed) (seen _ _ _ _ (ready-so-far (c .before .before .before .before .before .before .before .before .before .before .before .before .before .before .before .before .before .before .before .before .before .before .before .pre .1) (c .before .before .before .before .before .before .before .before .before .before .before .loop .inv .2 _ _ (so-far-one (c .before .before .before .before .before .before .before .before .before .before .before .before .before .first .given .1) (c .before .before .before .before .before .before .before .before .before .before .before .before .before .before .before .before .before .before .command .ensures))) .clean) (c .before .before .before .before .before .before .before .before .before .before .look .ensures)) (λ h. c .before .before .before .before .before .before .before .before .if1 .left (c .before .before .before .before .before .before .before .before .before .fixed-of .ensures ∙ h)) .refuses _ _ (rw (c .enum-told2 .given .1) at (c .before .before .before .before .before .command2 .ensures)))
+
+block-larger-requires : (t : ℕ) → block-lts.Need-larger-requires (block-claims t) (block-at t) block.Post block-Inv-loop block-μ-loop
+block-larger-requires t c κs = search needs
+
+block-with-need-requires : (t : ℕ) → block-lts.Need-with-need-requires (block-claims t) (block-at t) block.Post block-Inv-loop block-μ-loop
+block-with-need-requires t c κs = search needs
+
+block-loop-less : (t : ℕ) → block-lts.Need-loop-less (block-claims t) (block-at t) block.Post block-Inv-loop block-μ-loop
+unfolding needing
+block-loop-less t c = rw (c .with-need .ensures) (omega (arith, so-far-later (c .before .before .before .before .before .before .before .before .before .before .before .before .before .before .before .before .before .before .before .before .before .before .before .before .before .before .pre .1) (c .before .before .before .before .before .before .before .before .before .before .before .before .before .before .loop .inv .2 _ _ (so-far-one (c .before .before .before .before .before .before .before .before .before .before .before .before .before .before .before .before .first .given .1) (c .before .before .before .before .before .before .before .before .before .before .before .before .before .before .before .before .before .before .before .before .before .command .ensures))) _ _ (c .before .before .before .r .given .1) (c .before .before .before .before .before .before .before .before .command2 .ensures)))
+
+block-loop-again : (t : ℕ) → block-lts.Need-loop-again (block-claims t) (block-at t) block.Post block-Inv-loop block-μ-loop
+block-loop-again t c = (omega (arith, c .before .before .before .before .before .before .before .before .command2 .kept .1 .0, c .before .before .before .before .before .before .before .before .before .before .before .before .before .before .loop .inv .0), omega (arith, c .before .before .before .before .before .before .before .before .command2 .kept .1 .1 .0, c .before .before .before .before .before .before .before .before .before .before .before .before .before .before .loop .inv .1), λ names₁ table₁ x. rw (c .with-need .ensures, c .before .larger .ensures) (so-far-more (c .before .before .before .before .before .before .before .before .before .before .before .before .before .before .loop .inv .2 names₁ table₁ x) (seen _ _ _ _ (ready-so-far (c .before .before .before .before .before .before .before .before .before .before .before .before .before .before .before .before .before .before .before .before .before .before .before .before .before .before .pre .1) (c .before .before .before .before .before .before .before .before .before .before .before .before .before .before .loop .inv .2 _ _ (so-far-one (c .before .before .before .before .before .before .before .before .before .before .before .before .before .before .before .before .first .given .1) (c .before .before .before .before .before .before .before .before .before .before .before .before .before .before .before .before .before .before .before .before .before .command .ensures))) .clean) (c .before .before .before .before .before .before .before .before .before .before .before .before .before .look .ensures)) (c .before .before .before .before .before .before .before .before .before .before .before .before .fixed-of .ensures) (c .before .before .before .before .before .before .before .before .before .before .before .if1 .left) (c .before .before .before .r .given .1) (c .before .before .before .before .before .before .before .before .command2 .ensures)))
+
+command-look-requires : (t : ℕ) → command-lts.Need-look-requires (command-claims t) (command-at t) command.Post
+command-look-requires t c κs = c .before .before .pre .1 .clean
+
+command-moved-requires : (t : ℕ) → command-lts.Need-moved-requires (command-claims t) (command-at t) command.Post
+command-moved-requires t c κs = search needs
+
+command-enum-told : (t : ℕ) → command-lts.Need-enum-told (command-claims t) (command-at t) command.Post
+command-enum-told t c = search needs
+
+command-assign-requires : (t : ℕ) → command-lts.Need-assign-requires (command-claims t) (command-at t) command.Post
+command-assign-requires t c κs = ready-past (c .before .before .before .before .before .before .before .before .pre .1) (past-name _ (c .before .before .before .before .before .before .before .before .pre .1) (c .before .before .before .before .before .look .ensures) (c .before .before .enum-told .given .1)) (le-refl _) (c .before .before .before .before .moved .ensures)
+
+command-same-length : (t : ℕ) → command-lts.Need-same-length (command-claims t) (command-at t) command.Post
+command-same-length t c = search needs
+
+command-same-length-2 : (t : ℕ) → command-lts.Need-same-length-2 (command-claims t) (command-at t) command.Post
+command-same-length-2 t c = search needs
+
+command-returns : (t : ℕ) → command-lts.Need-returns (command-claims t) (command-at t) command.Post
+command-returns t c = reads-past _ _ _ _ _ _ (past-name _ (c .before .before .before .before .before .before .before .before .before .before .pre .1) (c .before .before .before .before .before .before .before .look .ensures) (c .before .before .before .before .enum-told .given .1)) (c .before .before .before .before .before .before .moved .ensures) (assign-begins (seen-first _ (c .before .before .before .before .before .before .before .before .before .before .pre .1) (c .before .before .before .before .before .before .before .look .ensures)) _ (c .before .before .before .before .enum-told .given .1)) (c .before .assign .ensures)
+
+command-fixed-of-requires : (t : ℕ) → command-lts.Need-fixed-of-requires (command-claims t) (command-at t) command.Post
+command-fixed-of-requires t c κs = search needs
+
+command-emitted-requires : (t : ℕ) → command-lts.Need-emitted-requires (command-claims t) (command-at t) command.Post
+unfolding moved-to
+command-emitted-requires t c κs = rw (c .before .before .before .before .moved .ensures) (omega (arith, c .before .before .before .before .before .before .before .before .pre .1 .short, c .before .before .before .before .before .before .before .before .pre .1 .code, c .before .before .before .before .before .before .before .before .pre .1 .inside))
+
+command-declare-requires : (t : ℕ) → command-lts.Need-declare-requires (command-claims t) (command-at t) command.Post
+command-declare-requires t c κs = ready-past (c .before .before .before .before .before .before .before .before .before .pre .1) (past-fixed _ (c .before .before .before .before .before .before .before .before .before .pre .1) (c .before .before .before .before .before .before .look .ensures) (c .before .before .before .fixed-of .ensures) (λ z. omega (arith, c .before .before .match2 .keys2, z))) (le-refl _) (c .before .before .before .before .before .moved .ensures)
+
+command-print-int-requires : (t : ℕ) → command-lts.Need-print-int-requires (command-claims t) (command-at t) command.Post
+command-print-int-requires t c κs = ready-past (c .before .before .before .before .before .before .before .before .before .pre .1) (past-fixed _ (c .before .before .before .before .before .before .before .before .before .pre .1) (c .before .before .before .before .before .before .look .ensures) (c .before .before .before .fixed-of .ensures) (λ z. omega (arith, c .before .before .match2 .keys3, z))) (le-refl _) (c .before .before .before .before .before .moved .ensures)
+
+command-print-string-requires : (t : ℕ) → command-lts.Need-print-string-requires (command-claims t) (command-at t) command.Post
+command-print-string-requires t c κs = ready-past (c .before .before .before .before .before .before .before .before .before .pre .1) (past-fixed _ (c .before .before .before .before .before .before .before .before .before .pre .1) (c .before .before .before .before .before .before .look .ensures) (c .before .before .before .fixed-of .ensures) (λ z. omega (arith, c .before .before .match2 .keys4, z))) (le-refl _) (c .before .before .before .before .before .moved .ensures)
+
+command-print-string-requires-2 : (t : ℕ) → command-lts.Need-print-string-requires-2 (command-claims t) (command-at t) command.Post
+command-print-string-requires-2 t c κs = ready-past (c .before .before .before .before .before .before .before .before .before .pre .1) (past-fixed _ (c .before .before .before .before .before .before .before .before .before .pre .1) (c .before .before .before .before .before .before .look .ensures) (c .before .before .before .fixed-of .ensures) (λ z. omega (arith, c .before .before .match2 .keys5, z))) (le-refl _) (c .before .before .before .before .before .moved .ensures)
+
+command-read-requires : (t : ℕ) → command-lts.Need-read-requires (command-claims t) (command-at t) command.Post
+command-read-requires t c κs = ready-past (c .before .before .before .before .before .before .before .before .before .pre .1) (past-fixed _ (c .before .before .before .before .before .before .before .before .before .pre .1) (c .before .before .before .before .before .before .look .ensures) (c .before .before .before .fixed-of .ensures) (λ z. omega (arith, c .before .before .match2 .keys6, z))) (le-refl _) (c .before .before .before .before .before .moved .ensures)
+
+command-returns-2 : (t : ℕ) → command-lts.Need-returns-2 (command-claims t) (command-at t) command.Post
+unfolding Reads
+command-returns-2 t c = nested-too-deep (seen-first _ (c .before .before .before .before .before .before .before .before .pre .1) (c .before .before .before .before .before .look .ensures)) _ (rw (c .before .before .fixed-of .ensures) at (c .before .match2 .keys7)) (c .if1 .taken)
+
+command-sub-nested : (t : ℕ) → command-lts.Need-sub-nested (command-claims t) (command-at t) command.Post
+command-sub-nested t c = omega (arith, c .before .before .if1 .left)
+
+command-nested-requires : (t : ℕ) → command-lts.Need-nested-requires (command-claims t) (command-at t) command.Post
+command-nested-requires t c κs = (omega (arith, c .before .before .before .before .before .before .before .before .before .before .pre .0, c .before .before .if1 .left), ready-past (c .before .before .before .before .before .before .before .before .before .before .pre .1) (past-fixed _ (c .before .before .before .before .before .before .before .before .before .before .pre .1) (c .before .before .before .before .before .before .before .look .ensures) (c .before .before .before .before .fixed-of .ensures) (λ z. miss (6 ∷ 21 ∷ 123 ∷ []) 0 tt (rw z at (c .before .before .before .match2 .keys7)))) (omega arith) (c .before .before .before .before .before .before .moved .ensures))
+
+command-same-length-3 : (t : ℕ) → command-lts.Need-same-length-3 (command-claims t) (command-at t) command.Post
+command-same-length-3 t c = search needs
+
+command-returns-3 : (t : ℕ) → command-lts.Need-returns-3 (command-claims t) (command-at t) command.Post
+unfolding Reads one-more moved-to
+command-returns-3 t c = rw (c .before .emitted .ensures .0, c .before .emitted .ensures .1, c .before .before .before .before .before .before .moved .ensures) (error, error-read (seen-first _ (c .before .before .before .before .before .before .before .before .before .before .pre .1) (c .before .before .before .before .before .before .before .look .ensures)) _ (sym (c .before .before .before .before .fixed-of .ensures) ∙ c .before .before .before .match2 .keys1), lays-error _ ((past-fixed _ (c .before .before .before .before .before .before .before .before .before .before .pre .1) (c .before .before .before .before .before .before .before .look .ensures) (c .before .before .before .before .fixed-of .ensures) (λ z. omega (arith, c .before .before .before .match2 .keys1, z))) .later) (c .before .before .before .before .before .before .before .before .before .before .pre .1 .declared))
+
+command-same-length-4 : (t : ℕ) → command-lts.Need-same-length-4 (command-claims t) (command-at t) command.Post
+command-same-length-4 t c = search needs
+
+command-same-length-5 : (t : ℕ) → command-lts.Need-same-length-5 (command-claims t) (command-at t) command.Post
+command-same-length-5 t c = search needs
+
+command-returns-4 : (t : ℕ) → command-lts.Need-returns-4 (command-claims t) (command-at t) command.Post
+command-returns-4 t c = reads-past _ _ _ _ _ _ (past-fixed _ (c .before .before .before .before .before .before .before .before .before .before .before .before .before .pre .1) (c .before .before .before .before .before .before .before .before .before .before .look .ensures) (c .before .before .before .before .before .before .before .fixed-of .ensures) (λ z. omega (arith, c .before .before .before .before .before .before .match2 .keys2, z))) (c .before .before .before .before .before .before .before .before .before .moved .ensures) (declare-begins (seen-first _ (c .before .before .before .before .before .before .before .before .before .before .before .before .before .pre .1) (c .before .before .before .before .before .before .before .before .before .before .look .ensures)) _ (sym (c .before .before .before .before .before .before .before .fixed-of .ensures) ∙ c .before .before .before .before .before .before .match2 .keys2)) (c .before .before .before .declare .ensures)
+
+command-same-length-6 : (t : ℕ) → command-lts.Need-same-length-6 (command-claims t) (command-at t) command.Post
+command-same-length-6 t c = search needs
+
+command-same-length-7 : (t : ℕ) → command-lts.Need-same-length-7 (command-claims t) (command-at t) command.Post
+command-same-length-7 t c = search needs
+
+command-returns-5 : (t : ℕ) → command-lts.Need-returns-5 (command-claims t) (command-at t) command.Post
+command-returns-5 t c = reads-past _ _ _ _ _ _ (past-fixed _ (c .before .before .before .before .before .before .before .before .before .before .before .pre .1) (c .before .before .before .before .before .before .before .before .look .ensures) (c .before .before .before .before .before .fixed-of .ensures) (λ z. omega (arith, c .before .before .before .before .match2 .keys3, z))) (c .before .before .before .before .before .before .before .moved .ensures) (print-begins (seen-first _ (c .before .before .before .before .before .before .before .before .before .before .before .pre .1) (c .before .before .before .before .before .before .before .before .look .ensures)) _ (sym (c .before .before .before .before .before .fixed-of .ensures) ∙ c .before .before .before .before .match2 .keys3)) (c .before .print-int .ensures)
+
+command-same-length-8 : (t : ℕ) → command-lts.Need-same-length-8 (command-claims t) (command-at t) command.Post
+command-same-length-8 t c = search needs
+
+command-same-length-9 : (t : ℕ) → command-lts.Need-same-length-9 (command-claims t) (command-at t) command.Post
+command-same-length-9 t c = search needs
+
+command-returns-6 : (t : ℕ) → command-lts.Need-returns-6 (command-claims t) (command-at t) command.Post
+command-returns-6 t c = reads-past _ _ _ _ _ _ (past-fixed _ (c .before .before .before .before .before .before .before .before .before .before .before .pre .1) (c .before .before .before .before .before .before .before .before .look .ensures) (c .before .before .before .before .before .fixed-of .ensures) (λ z. omega (arith, c .before .before .before .before .match2 .keys4, z))) (c .before .before .before .before .before .before .before .moved .ensures) (line-begins (seen-first _ (c .before .before .before .before .before .before .before .before .before .before .before .pre .1) (c .before .before .before .before .before .before .before .before .look .ensures)) _ (sym (c .before .before .before .before .before .fixed-of .ensures) ∙ c .before .before .before .before .match2 .keys4)) (c .before .print-string .ensures)
+
+command-same-length-10 : (t : ℕ) → command-lts.Need-same-length-10 (command-claims t) (command-at t) command.Post
+command-same-length-10 t c = search needs
+
+command-same-length-11 : (t : ℕ) → command-lts.Need-same-length-11 (command-claims t) (command-at t) command.Post
+command-same-length-11 t c = search needs
+
+command-returns-7 : (t : ℕ) → command-lts.Need-returns-7 (command-claims t) (command-at t) command.Post
+command-returns-7 t c = reads-past _ _ _ _ _ _ (past-fixed _ (c .before .before .before .before .before .before .before .before .before .before .before .pre .1) (c .before .before .before .before .before .before .before .before .look .ensures) (c .before .before .before .before .before .fixed-of .ensures) (λ z. omega (arith, c .before .before .before .before .match2 .keys5, z))) (c .before .before .before .before .before .before .before .moved .ensures) (string-begins (seen-first _ (c .before .before .before .before .before .before .before .before .before .before .before .pre .1) (c .before .before .before .before .before .before .before .before .look .ensures)) _ (sym (c .before .before .before .before .before .fixed-of .ensures) ∙ c .before .before .before .before .match2 .keys5)) (c .before .print-string2 .ensures)
+
+command-same-length-12 : (t : ℕ) → command-lts.Need-same-length-12 (command-claims t) (command-at t) command.Post
+command-same-length-12 t c = search needs
+
+command-same-length-13 : (t : ℕ) → command-lts.Need-same-length-13 (command-claims t) (command-at t) command.Post
+command-same-length-13 t c = search needs
+
+command-returns-8 : (t : ℕ) → command-lts.Need-returns-8 (command-claims t) (command-at t) command.Post
+command-returns-8 t c = reads-past _ _ _ _ _ _ (past-fixed _ (c .before .before .before .before .before .before .before .before .before .before .before .pre .1) (c .before .before .before .before .before .before .before .before .look .ensures) (c .before .before .before .before .before .fixed-of .ensures) (λ z. omega (arith, c .before .before .before .before .match2 .keys6, z))) (c .before .before .before .before .before .before .before .moved .ensures) (read-begins (seen-first _ (c .before .before .before .before .before .before .before .before .before .before .before .pre .1) (c .before .before .before .before .before .before .before .before .look .ensures)) _ (sym (c .before .before .before .before .before .fixed-of .ensures) ∙ c .before .before .before .before .match2 .keys6)) (c .before .read .ensures)
+
+command-same-length-14 : (t : ℕ) → command-lts.Need-same-length-14 (command-claims t) (command-at t) command.Post
+command-same-length-14 t c = search needs
+
+command-same-length-15 : (t : ℕ) → command-lts.Need-same-length-15 (command-claims t) (command-at t) command.Post
+command-same-length-15 t c = search needs
+
+command-returns-9 : (t : ℕ) → command-lts.Need-returns-9 (command-claims t) (command-at t) command.Post
+command-returns-9 t c = reads-past _ _ _ _ _ _ (past-fixed _ (c .before .before .before .before .before .before .before .before .before .before .before .before .before .before .pre .1) (c .before .before .before .before .before .before .before .before .before .before .before .look .ensures) (c .before .before .before .before .before .before .before .before .fixed-of .ensures) (λ z. miss (6 ∷ 21 ∷ 123 ∷ []) 0 tt (rw z at (c .before .before .before .before .before .before .before .match2 .keys7)))) (c .before .before .before .before .before .before .before .before .before .before .moved .ensures) (nested-begins (seen-first _ (c .before .before .before .before .before .before .before .before .before .before .before .before .before .before .pre .1) (c .before .before .before .before .before .before .before .before .before .before .before .look .ensures)) _ (rw (c .before .before .before .before .before .before .before .before .fixed-of .ensures) at (c .before .before .before .before .before .before .before .match2 .keys7)) (c .before .before .before .before .before .before .if1 .left)) (reads-nested _ _ _ _ _ _ _ _ _ (rw (c .before .before .before .before .before .before .before .before .fixed-of .ensures) at (c .before .before .before .nested .ensures)))
+
+command-returns-10 : (t : ℕ) → command-lts.Need-returns-10 (command-claims t) (command-at t) command.Post
+unfolding Reads
+command-returns-10 t c = no-command (seen-first _ (c .before .before .before .before .before .before .before .pre .1) (c .before .before .before .before .look .ensures)) _ (not-name (c .before .before .match .keys2)) (λ h. c .match2 .rest .0 .0 .0 .0 .0 .0 .1 (rw (c .before .fixed-of .ensures) h)) (λ h. c .match2 .rest .0 .0 .0 .0 .0 .1 (rw (c .before .fixed-of .ensures) h)) (λ h. c .match2 .rest .0 .0 .0 .0 .1 (rw (c .before .fixed-of .ensures) h)) (λ h. c .match2 .rest .0 .0 .0 .1 (rw (c .before .fixed-of .ensures) h)) (λ h. c .match2 .rest .0 .0 .1 (rw (c .before .fixed-of .ensures) h)) (λ h. c .match2 .rest .0 .1 (rw (c .before .fixed-of .ensures) h)) (λ h. c .match2 .rest .1 (rw (c .before .fixed-of .ensures) h))
+
+if-command-condition-requires : (t : ℕ) → if-command-lts.Need-condition-requires (if-command-claims t) (if-command-at t) if-command.Post
+if-command-condition-requires t c κs = c .before .before .before .before .pre .1
+
+if-command-enum-known-r : (t : ℕ) → if-command-lts.Need-enum-known-r (if-command-claims t) (if-command-at t) if-command.Post
+if-command-enum-known-r t c = search needs
+
+if-command-enum-told : (t : ℕ) → if-command-lts.Need-enum-told (if-command-claims t) (if-command-at t) if-command.Post
+if-command-enum-told t c = search needs
+
+if-command-same-length : (t : ℕ) → if-command-lts.Need-same-length (if-command-claims t) (if-command-at t) if-command.Post
+if-command-same-length t c = search needs
+
+if-command-same-length-2 : (t : ℕ) → if-command-lts.Need-same-length-2 (if-command-claims t) (if-command-at t) if-command.Post
+if-command-same-length-2 t c = search needs
+
+if-command-returns : (t : ℕ) → if-command-lts.Need-returns (if-command-claims t) (if-command-at t) if-command.Post
+unfolding Reads
+if-command-returns t c = rw (c .enum-told .given .1) (when-refused _ _ _ _ _ (rw (c .enum-told .given .1) at (c .before .before .before .condition .ensures)))
+
+if-command-expect-requires : (t : ℕ) → if-command-lts.Need-expect-requires (if-command-claims t) (if-command-at t) if-command.Post
+unfolding Reads
+if-command-expect-requires t c κs = clean-passed _ ((rw (c .before .r .given .1) at (c .before .before .before .before .condition .ensures)) .1) (c .before .before .before .before .before .before .before .before .before .pre .1 .clean)
+
+if-command-enum-known-s : (t : ℕ) → if-command-lts.Need-enum-known-s (if-command-claims t) (if-command-at t) if-command.Post
+if-command-enum-known-s t c = search needs
+
+if-command-enum-told-2 : (t : ℕ) → if-command-lts.Need-enum-told-2 (if-command-claims t) (if-command-at t) if-command.Post
+if-command-enum-told-2 t c = search needs
+
+if-command-same-length-3 : (t : ℕ) → if-command-lts.Need-same-length-3 (if-command-claims t) (if-command-at t) if-command.Post
+if-command-same-length-3 t c = search needs
+
+if-command-same-length-4 : (t : ℕ) → if-command-lts.Need-same-length-4 (if-command-claims t) (if-command-at t) if-command.Post
+if-command-same-length-4 t c = search needs
+
+if-command-returns-2 : (t : ℕ) → if-command-lts.Need-returns-2 (if-command-claims t) (if-command-at t) if-command.Post
+unfolding Reads
+if-command-returns-2 t c = let g = (rw (c .before .before .before .before .r .given .1) at (c .before .before .before .before .before .before .before .condition .ensures)) in rw (c .enum-told2 .given .1) (no-then _ _ (g .1) (missed _ _ _ _ _ _ (clean-passed _ (g .1) (c .before .before .before .before .before .before .before .before .before .before .before .before .pre .1 .clean)) (rw (c .enum-told2 .given .1) at (c .before .before .expect .ensures))))
+
+if-command-skipped-requires : (t : ℕ) → if-command-lts.Need-skipped-requires (if-command-claims t) (if-command-at t) if-command.Post
+if-command-skipped-requires t c κs = head-small (λ z. omega arith) (c .before .before .before .before .before .before .before .before .before .before .before .before .before .before .before .pre .1) (headed (c .before .before .before .before .before .before .before .before .before .before .before .before .before .before .before .pre .1) (c .before .before .before .before .before .before .before .r .given .1) (c .before .before .before .before .before .before .before .before .before .before .condition .ensures) (c .before .before .before .s .given .1) (c .before .before .before .before .before .expect .ensures))
+
+if-command-command-requires : (t : ℕ) → if-command-lts.Need-command-requires (if-command-claims t) (if-command-at t) if-command.Post
+if-command-command-requires t c κs = (omega (arith, c .before .before .before .before .before .before .before .before .before .before .before .before .before .before .before .before .pre .0), ready-headed (λ z. omega arith) (c .before .before .before .before .before .before .before .before .before .before .before .before .before .before .before .before .pre .1) (headed (c .before .before .before .before .before .before .before .before .before .before .before .before .before .before .before .before .pre .1) (c .before .before .before .before .before .before .before .before .r .given .1) (c .before .before .before .before .before .before .before .before .before .before .before .condition .ensures) (c .before .before .before .before .s .given .1) (c .before .before .before .before .before .before .expect .ensures)) (c .skipped .ensures))
+
+if-command-enum-known-t : (t : ℕ) → if-command-lts.Need-enum-known-t (if-command-claims t) (if-command-at t) if-command.Post
+if-command-enum-known-t t c = search needs
+
+if-command-enum-told-3 : (t : ℕ) → if-command-lts.Need-enum-told-3 (if-command-claims t) (if-command-at t) if-command.Post
+if-command-enum-told-3 t c = search needs
+
+if-command-same-length-5 : (t : ℕ) → if-command-lts.Need-same-length-5 (if-command-claims t) (if-command-at t) if-command.Post
+if-command-same-length-5 t c = search needs
+
+if-command-same-length-6 : (t : ℕ) → if-command-lts.Need-same-length-6 (if-command-claims t) (if-command-at t) if-command.Post
+if-command-same-length-6 t c = search needs
+
+if-command-returns-3 : (t : ℕ) → if-command-lts.Need-returns-3 (if-command-claims t) (if-command-at t) if-command.Post
+unfolding Reads one-more
+if-command-returns-3 t c = let b = (headed (c .before .before .before .before .before .before .before .before .before .before .before .before .before .before .before .before .before .before .before .before .before .before .pre .1) (c .before .before .before .before .before .before .before .before .before .before .before .before .before .before .r .given .1) (c .before .before .before .before .before .before .before .before .before .before .before .before .before .before .before .before .before .condition .ensures) (c .before .before .before .before .before .before .before .before .before .before .s .given .1) (c .before .before .before .before .before .before .before .before .before .before .before .before .expect .ensures)) in rw (c .enum-told3 .given .1) (when-leads _ _ (b .passed) (b .next .met) .refuses _ _ (rw (c .before .before .before .before .before .before .skipped .ensures, c .enum-told3 .given .1) at (c .before .before .before .before .before .command .ensures)))
+
+if-command-cast-put : (t : ℕ) → if-command-lts.Need-cast-put (if-command-claims t) (if-command-at t) if-command.Post
+if-command-cast-put t c = count-fits (omega (arith, body-small (λ z. omega arith) (c .before .before .before .before .before .before .before .before .before .before .before .before .before .before .before .before .before .before .before .before .before .before .before .before .before .pre .1) (headed (c .before .before .before .before .before .before .before .before .before .before .before .before .before .before .before .before .before .before .before .before .before .before .before .before .before .pre .1) (c .before .before .before .before .before .before .before .before .before .before .before .before .before .before .before .before .before .r .given .1) (c .before .before .before .before .before .before .before .before .before .before .before .before .before .before .before .before .before .before .before .before .condition .ensures) (c .before .before .before .before .before .before .before .before .before .before .before .before .before .s .given .1) (c .before .before .before .before .before .before .before .before .before .before .before .before .before .before .before .expect .ensures)) _ _ (c .before .before .before .before .before .before .before .before .before .skipped .ensures) (c .before .before .before .t .given .1) (c .before .before .before .before .before .before .before .before .command .ensures)))
+
+if-command-put-requires : (t : ℕ) → if-command-lts.Need-put-requires (if-command-claims t) (if-command-at t) if-command.Post
+if-command-put-requires t c κs = search needs
+
+if-command-larger-requires : (t : ℕ) → if-command-lts.Need-larger-requires (if-command-claims t) (if-command-at t) if-command.Post
+if-command-larger-requires t c κs = search needs
+
+if-command-with-need-requires : (t : ℕ) → if-command-lts.Need-with-need-requires (if-command-claims t) (if-command-at t) if-command.Post
+if-command-with-need-requires t c κs = search needs
+
+if-command-same-length-7 : (t : ℕ) → if-command-lts.Need-same-length-7 (if-command-claims t) (if-command-at t) if-command.Post
+if-command-same-length-7 t c = search needs
+
+if-command-same-length-8 : (t : ℕ) → if-command-lts.Need-same-length-8 (if-command-claims t) (if-command-at t) if-command.Post
+if-command-same-length-8 t c = omega (arith, c .before .before .before .put .kept .0, c .before .before .before .before .before .before .before .before .before .before .before .before .command .kept .1 .1 .0, c .before .before .before .before .before .before .before .before .before .before .before .before .before .before .before .before .before .before .before .before .before .before .before .before .condition .kept .1 .1 .0)
+
+if-command-returns-4 : (t : ℕ) → if-command-lts.Need-returns-4 (if-command-claims t) (if-command-at t) if-command.Post
+if-command-returns-4 t c = rw (c .with-need .ensures, c .before .larger .ensures, c .before .before .before .put .ensures, toZ-ofZ (if-command-cast-put t (c .before .before .before .before))) (when-read _ _ (c .before .before .before .before .before .before .before .before .before .before .before .before .before .before .before .before .before .before .before .before .before .before .before .before .before .before .before .before .before .pre .1) (headed (c .before .before .before .before .before .before .before .before .before .before .before .before .before .before .before .before .before .before .before .before .before .before .before .before .before .before .before .before .before .pre .1) (c .before .before .before .before .before .before .before .before .before .before .before .before .before .before .before .before .before .before .before .before .before .r .given .1) (c .before .before .before .before .before .before .before .before .before .before .before .before .before .before .before .before .before .before .before .before .before .before .before .before .condition .ensures) (c .before .before .before .before .before .before .before .before .before .before .before .before .before .before .before .before .before .s .given .1) (c .before .before .before .before .before .before .before .before .before .before .before .before .before .before .before .before .before .before .before .expect .ensures)) (c .before .before .before .before .before .before .before .before .before .before .before .before .before .skipped .ensures) (c .before .before .before .before .before .before .before .t .given .1) (c .before .before .before .before .before .before .before .before .before .before .before .before .command .ensures))
+
+nested-if-command-requires : (t : ℕ) → nested-lts.Need-if-command-requires (nested-claims t) (nested-at t) nested.Post
+nested-if-command-requires t c κs = (omega (arith, c .before .before .before .before .before .pre .0), c .before .before .before .before .before .pre .1)
+
+nested-while-command-requires : (t : ℕ) → nested-lts.Need-while-command-requires (nested-claims t) (nested-at t) nested.Post
+nested-while-command-requires t c κs = (omega (arith, c .before .before .before .before .before .pre .0), c .before .before .before .before .before .pre .1)
+
+nested-block-requires : (t : ℕ) → nested-lts.Need-block-requires (nested-claims t) (nested-at t) nested.Post
+nested-block-requires t c κs = (omega (arith, c .before .before .before .before .before .pre .0), c .before .before .before .before .before .pre .1)
+
+nested-same-length : (t : ℕ) → nested-lts.Need-same-length (nested-claims t) (nested-at t) nested.Post
+nested-same-length t c = search needs
+
+nested-same-length-2 : (t : ℕ) → nested-lts.Need-same-length-2 (nested-claims t) (nested-at t) nested.Post
+nested-same-length-2 t c = search needs
+
+nested-returns : (t : ℕ) → nested-lts.Need-returns (nested-claims t) (nested-at t) nested.Post
+unfolding Reads-nested
+nested-returns t c = rw (c .before .before .before .before .before .before .match .keys1) (c .before .before .before .if-command .ensures)
+
+nested-same-length-3 : (t : ℕ) → nested-lts.Need-same-length-3 (nested-claims t) (nested-at t) nested.Post
+nested-same-length-3 t c = search needs
+
+nested-same-length-4 : (t : ℕ) → nested-lts.Need-same-length-4 (nested-claims t) (nested-at t) nested.Post
+nested-same-length-4 t c = search needs
+
+nested-returns-2 : (t : ℕ) → nested-lts.Need-returns-2 (nested-claims t) (nested-at t) nested.Post
+unfolding Reads-nested
+nested-returns-2 t c = rw (c .before .before .before .before .before .before .match .keys2) (c .before .before .before .while-command .ensures)
+
+nested-same-length-5 : (t : ℕ) → nested-lts.Need-same-length-5 (nested-claims t) (nested-at t) nested.Post
+nested-same-length-5 t c = search needs
+
+nested-same-length-6 : (t : ℕ) → nested-lts.Need-same-length-6 (nested-claims t) (nested-at t) nested.Post
+nested-same-length-6 t c = search needs
+
+nested-returns-3 : (t : ℕ) → nested-lts.Need-returns-3 (nested-claims t) (nested-at t) nested.Post
+unfolding Reads-nested
+nested-returns-3 t c = rw (ne-eqb _ _ (c .before .before .before .before .before .before .match .rest .0 .1), ne-eqb _ _ (c .before .before .before .before .before .before .match .rest .1)) (c .before .before .before .block .ensures)
+
+while-command-condition-requires : (t : ℕ) → while-command-lts.Need-condition-requires (while-command-claims t) (while-command-at t) while-command.Post
+while-command-condition-requires t c κs = c .before .before .before .before .pre .1
+
+while-command-enum-known-r : (t : ℕ) → while-command-lts.Need-enum-known-r (while-command-claims t) (while-command-at t) while-command.Post
+while-command-enum-known-r t c = search needs
+
+while-command-enum-told : (t : ℕ) → while-command-lts.Need-enum-told (while-command-claims t) (while-command-at t) while-command.Post
+while-command-enum-told t c = search needs
+
+while-command-same-length : (t : ℕ) → while-command-lts.Need-same-length (while-command-claims t) (while-command-at t) while-command.Post
+while-command-same-length t c = search needs
+
+while-command-same-length-2 : (t : ℕ) → while-command-lts.Need-same-length-2 (while-command-claims t) (while-command-at t) while-command.Post
+while-command-same-length-2 t c = search needs
+
+while-command-returns : (t : ℕ) → while-command-lts.Need-returns (while-command-claims t) (while-command-at t) while-command.Post
+unfolding Reads
+while-command-returns t c = rw (c .enum-told .given .1) (while-refused _ _ _ _ _ (rw (c .enum-told .given .1) at (c .before .before .before .condition .ensures)))
+
+while-command-expect-requires : (t : ℕ) → while-command-lts.Need-expect-requires (while-command-claims t) (while-command-at t) while-command.Post
+unfolding Reads
+while-command-expect-requires t c κs = clean-passed _ ((rw (c .before .r .given .1) at (c .before .before .before .before .condition .ensures)) .1) (c .before .before .before .before .before .before .before .before .before .pre .1 .clean)
+
+while-command-enum-known-s : (t : ℕ) → while-command-lts.Need-enum-known-s (while-command-claims t) (while-command-at t) while-command.Post
+while-command-enum-known-s t c = search needs
+
+while-command-enum-told-2 : (t : ℕ) → while-command-lts.Need-enum-told-2 (while-command-claims t) (while-command-at t) while-command.Post
+while-command-enum-told-2 t c = search needs
+
+while-command-same-length-3 : (t : ℕ) → while-command-lts.Need-same-length-3 (while-command-claims t) (while-command-at t) while-command.Post
+while-command-same-length-3 t c = search needs
+
+while-command-same-length-4 : (t : ℕ) → while-command-lts.Need-same-length-4 (while-command-claims t) (while-command-at t) while-command.Post
+while-command-same-length-4 t c = search needs
+
+while-command-returns-2 : (t : ℕ) → while-command-lts.Need-returns-2 (while-command-claims t) (while-command-at t) while-command.Post
+unfolding Reads
+while-command-returns-2 t c = let g = (rw (c .before .before .before .before .r .given .1) at (c .before .before .before .before .before .before .before .condition .ensures)) in rw (c .enum-told2 .given .1) (no-do _ _ (g .1) (missed _ _ _ _ _ _ (clean-passed _ (g .1) (c .before .before .before .before .before .before .before .before .before .before .before .before .pre .1 .clean)) (rw (c .enum-told2 .given .1) at (c .before .before .expect .ensures))))
+
+while-command-skipped-requires : (t : ℕ) → while-command-lts.Need-skipped-requires (while-command-claims t) (while-command-at t) while-command.Post
+while-command-skipped-requires t c κs = head-small (λ z. omega arith) (c .before .before .before .before .before .before .before .before .before .before .before .before .before .before .before .pre .1) (headed (c .before .before .before .before .before .before .before .before .before .before .before .before .before .before .before .pre .1) (c .before .before .before .before .before .before .before .r .given .1) (c .before .before .before .before .before .before .before .before .before .before .condition .ensures) (c .before .before .before .s .given .1) (c .before .before .before .before .before .expect .ensures))
+
+while-command-command-requires : (t : ℕ) → while-command-lts.Need-command-requires (while-command-claims t) (while-command-at t) while-command.Post
+while-command-command-requires t c κs = (omega (arith, c .before .before .before .before .before .before .before .before .before .before .before .before .before .before .before .before .pre .0), ready-headed (λ z. omega arith) (c .before .before .before .before .before .before .before .before .before .before .before .before .before .before .before .before .pre .1) (headed (c .before .before .before .before .before .before .before .before .before .before .before .before .before .before .before .before .pre .1) (c .before .before .before .before .before .before .before .before .r .given .1) (c .before .before .before .before .before .before .before .before .before .before .before .condition .ensures) (c .before .before .before .before .s .given .1) (c .before .before .before .before .before .before .expect .ensures)) (c .skipped .ensures))
+
+while-command-enum-known-t : (t : ℕ) → while-command-lts.Need-enum-known-t (while-command-claims t) (while-command-at t) while-command.Post
+while-command-enum-known-t t c = search needs
+
+while-command-enum-told-3 : (t : ℕ) → while-command-lts.Need-enum-told-3 (while-command-claims t) (while-command-at t) while-command.Post
+while-command-enum-told-3 t c = search needs
+
+while-command-same-length-5 : (t : ℕ) → while-command-lts.Need-same-length-5 (while-command-claims t) (while-command-at t) while-command.Post
+while-command-same-length-5 t c = search needs
+
+while-command-same-length-6 : (t : ℕ) → while-command-lts.Need-same-length-6 (while-command-claims t) (while-command-at t) while-command.Post
+while-command-same-length-6 t c = search needs
+
+while-command-returns-3 : (t : ℕ) → while-command-lts.Need-returns-3 (while-command-claims t) (while-command-at t) while-command.Post
+unfolding Reads one-more
+while-command-returns-3 t c = let b = (headed (c .before .before .before .before .before .before .before .before .before .before .before .before .before .before .before .before .before .before .before .before .before .before .pre .1) (c .before .before .before .before .before .before .before .before .before .before .before .before .before .before .r .given .1) (c .before .before .before .before .before .before .before .before .before .before .before .before .before .before .before .before .before .condition .ensures) (c .before .before .before .before .before .before .before .before .before .before .s .given .1) (c .before .before .before .before .before .before .before .before .before .before .before .before .expect .ensures)) in rw (c .enum-told3 .given .1) (while-leads _ _ (b .passed) (b .next .met) .refuses _ _ (rw (c .before .before .before .before .before .before .skipped .ensures, c .enum-told3 .given .1) at (c .before .before .before .before .before .command .ensures)))
+
+while-command-add-put : (t : ℕ) → while-command-lts.Need-add-put (while-command-claims t) (while-command-at t) while-command.Post
+while-command-add-put t c = omega (arith, body-small (λ z. omega arith) (c .before .before .before .before .before .before .before .before .before .before .before .before .before .before .before .before .before .before .before .before .before .before .before .before .before .pre .1) (headed (c .before .before .before .before .before .before .before .before .before .before .before .before .before .before .before .before .before .before .before .before .before .before .before .before .before .pre .1) (c .before .before .before .before .before .before .before .before .before .before .before .before .before .before .before .before .before .r .given .1) (c .before .before .before .before .before .before .before .before .before .before .before .before .before .before .before .before .before .before .before .before .condition .ensures) (c .before .before .before .before .before .before .before .before .before .before .before .before .before .s .given .1) (c .before .before .before .before .before .before .before .before .before .before .before .before .before .before .before .expect .ensures)) _ _ (c .before .before .before .before .before .before .before .before .before .skipped .ensures) (c .before .before .before .t .given .1) (c .before .before .before .before .before .before .before .before .command .ensures))
+
+while-command-cast-put : (t : ℕ) → while-command-lts.Need-cast-put (while-command-claims t) (while-command-at t) while-command.Post
+while-command-cast-put t c = count-fits (omega (arith, body-small (λ z. omega arith) (c .before .before .before .before .before .before .before .before .before .before .before .before .before .before .before .before .before .before .before .before .before .before .before .before .before .pre .1) (headed (c .before .before .before .before .before .before .before .before .before .before .before .before .before .before .before .before .before .before .before .before .before .before .before .before .before .pre .1) (c .before .before .before .before .before .before .before .before .before .before .before .before .before .before .before .before .before .r .given .1) (c .before .before .before .before .before .before .before .before .before .before .before .before .before .before .before .before .before .before .before .before .condition .ensures) (c .before .before .before .before .before .before .before .before .before .before .before .before .before .s .given .1) (c .before .before .before .before .before .before .before .before .before .before .before .before .before .before .before .expect .ensures)) _ _ (c .before .before .before .before .before .before .before .before .before .skipped .ensures) (c .before .before .before .t .given .1) (c .before .before .before .before .before .before .before .before .command .ensures)))
+
+while-command-put-requires : (t : ℕ) → while-command-lts.Need-put-requires (while-command-claims t) (while-command-at t) while-command.Post
+while-command-put-requires t c κs = search needs
+
+while-command-cast-emitted : (t : ℕ) → while-command-lts.Need-cast-emitted (while-command-claims t) (while-command-at t) while-command.Post
+while-command-cast-emitted t c = count-fits (omega (arith, c .before .before .before .before .before .before .before .before .before .before .before .before .before .before .before .before .before .before .before .before .before .before .before .before .before .before .before .before .before .pre .1 .short, c .before .before .before .before .before .before .before .before .before .before .before .before .before .before .before .before .before .before .before .before .before .before .before .before .before .before .before .before .before .pre .1 .code, c .before .before .before .before .before .before .before .before .before .before .before .before .before .before .before .before .before .before .before .before .before .before .before .before .before .before .before .before .before .pre .1 .inside))
+
+while-command-larger-requires : (t : ℕ) → while-command-lts.Need-larger-requires (while-command-claims t) (while-command-at t) while-command.Post
+while-command-larger-requires t c κs = search needs
+
+while-command-emitted-requires : (t : ℕ) → while-command-lts.Need-emitted-requires (while-command-claims t) (while-command-at t) while-command.Post
+while-command-emitted-requires t c κs = body-small (λ z. omega arith) (c .before .before .before .before .before .before .before .before .before .before .before .before .before .before .before .before .before .before .before .before .before .before .before .before .before .before .before .before .before .before .pre .1) (headed (c .before .before .before .before .before .before .before .before .before .before .before .before .before .before .before .before .before .before .before .before .before .before .before .before .before .before .before .before .before .before .pre .1) (c .before .before .before .before .before .before .before .before .before .before .before .before .before .before .before .before .before .before .before .before .before .before .r .given .1) (c .before .before .before .before .before .before .before .before .before .before .before .before .before .before .before .before .before .before .before .before .before .before .before .before .before .condition .ensures) (c .before .before .before .before .before .before .before .before .before .before .before .before .before .before .before .before .before .before .s .given .1) (c .before .before .before .before .before .before .before .before .before .before .before .before .before .before .before .before .before .before .before .before .expect .ensures)) _ _ (c .before .before .before .before .before .before .before .before .before .before .before .before .before .before .skipped .ensures) (c .before .before .before .before .before .before .before .before .t .given .1) (c .before .before .before .before .before .before .before .before .before .before .before .before .before .command .ensures)
+
+while-command-same-length-7 : (t : ℕ) → while-command-lts.Need-same-length-7 (while-command-claims t) (while-command-at t) while-command.Post
+while-command-same-length-7 t c = search needs
+
+while-command-same-length-8 : (t : ℕ) → while-command-lts.Need-same-length-8 (while-command-claims t) (while-command-at t) while-command.Post
+while-command-same-length-8 t c = omega (arith, c .before .emitted .kept .0, c .before .before .before .before .before .before .put .kept .0, c .before .before .before .before .before .before .before .before .before .before .before .before .before .before .before .command .kept .1 .1 .0, c .before .before .before .before .before .before .before .before .before .before .before .before .before .before .before .before .before .before .before .before .before .before .before .before .before .before .before .condition .kept .1 .1 .0)
+
+while-command-returns-4 : (t : ℕ) → while-command-lts.Need-returns-4 (while-command-claims t) (while-command-at t) while-command.Post
+while-command-returns-4 t c = rw (c .before .emitted .ensures .0, c .before .emitted .ensures .1, c .before .before .larger .ensures, c .before .before .before .before .before .before .put .ensures, toZ-ofZ (while-command-cast-put t (c .before .before .before .before .before .before .before)), toZ-ofZ (while-command-cast-emitted t (c .before .before .before))) (while-read _ _ (c .before .before .before .before .before .before .before .before .before .before .before .before .before .before .before .before .before .before .before .before .before .before .before .before .before .before .before .before .before .before .before .before .pre .1) (headed (c .before .before .before .before .before .before .before .before .before .before .before .before .before .before .before .before .before .before .before .before .before .before .before .before .before .before .before .before .before .before .before .before .pre .1) (c .before .before .before .before .before .before .before .before .before .before .before .before .before .before .before .before .before .before .before .before .before .before .before .before .r .given .1) (c .before .before .before .before .before .before .before .before .before .before .before .before .before .before .before .before .before .before .before .before .before .before .before .before .before .before .before .condition .ensures) (c .before .before .before .before .before .before .before .before .before .before .before .before .before .before .before .before .before .before .before .before .s .given .1) (c .before .before .before .before .before .before .before .before .before .before .before .before .before .before .before .before .before .before .before .before .before .before .expect .ensures)) (c .before .before .before .before .before .before .before .before .before .before .before .before .before .before .before .before .skipped .ensures) (c .before .before .before .before .before .before .before .before .before .before .t .given .1) (c .before .before .before .before .before .before .before .before .before .before .before .before .before .before .before .command .ensures))
+
+pub +block+command+if-command+nested+while-command-spec : {M : Type 1} → statement M
++block+command+if-command+nested+while-command-spec =
+    close μ-block μ-command μ-if-command μ-nested μ-while-command (λ t. block-lts.spec (block-claims t)
+    (block-at t)
+    block.Post
+    block-Inv-loop
+    block-μ-loop
+    (block-command-requires t)
+    (block-enum-known-first t)
+    (block-enum-told t)
+    (block-same-length t)
+    (block-same-length-2 t)
+    (block-returns t)
+    (block-loop-holds t)
+    (block-look-requires t)
+    (block-fixed-of-requires t)
+    (block-close-requires t)
+    (block-moved-requires t)
+    (block-same-length-3 t)
+    (block-same-length-4 t)
+    (block-returns-2 t)
+    (block-command-requires-2 t)
+    (block-enum-known-r t)
+    (block-enum-told-2 t)
+    (block-same-length-5 t)
+    (block-same-length-6 t)
+    (block-returns-3 t)
+    (block-larger-requires t)
+    (block-with-need-requires t)
+    (block-loop-less t)
+    (block-loop-again t))
+    (λ t. command-lts.spec (command-claims t)
+    (command-at t)
+    command.Post
+    (command-look-requires t)
+    (command-moved-requires t)
+    (command-enum-told t)
+    (command-assign-requires t)
+    (command-same-length t)
+    (command-same-length-2 t)
+    (command-returns t)
+    (command-fixed-of-requires t)
+    (command-emitted-requires t)
+    (command-declare-requires t)
+    (command-print-int-requires t)
+    (command-print-string-requires t)
+    (command-print-string-requires-2 t)
+    (command-read-requires t)
+    (command-returns-2 t)
+    (command-sub-nested t)
+    (command-nested-requires t)
+    (command-same-length-3 t)
+    (command-returns-3 t)
+    (command-same-length-4 t)
+    (command-same-length-5 t)
+    (command-returns-4 t)
+    (command-same-length-6 t)
+    (command-same-length-7 t)
+    (command-returns-5 t)
+    (command-same-length-8 t)
+    (command-same-length-9 t)
+    (command-returns-6 t)
+    (command-same-length-10 t)
+    (command-same-length-11 t)
+    (command-returns-7 t)
+    (command-same-length-12 t)
+    (command-same-length-13 t)
+    (command-returns-8 t)
+    (command-same-length-14 t)
+    (command-same-length-15 t)
+    (command-returns-9 t)
+    (command-returns-10 t))
+    (λ t. if-command-lts.spec (if-command-claims t)
+    (if-command-at t)
+    if-command.Post
+    (if-command-condition-requires t)
+    (if-command-enum-known-r t)
+    (if-command-enum-told t)
+    (if-command-same-length t)
+    (if-command-same-length-2 t)
+    (if-command-returns t)
+    (if-command-expect-requires t)
+    (if-command-enum-known-s t)
+    (if-command-enum-told-2 t)
+    (if-command-same-length-3 t)
+    (if-command-same-length-4 t)
+    (if-command-returns-2 t)
+    (if-command-skipped-requires t)
+    (if-command-command-requires t)
+    (if-command-enum-known-t t)
+    (if-command-enum-told-3 t)
+    (if-command-same-length-5 t)
+    (if-command-same-length-6 t)
+    (if-command-returns-3 t)
+    (if-command-cast-put t)
+    (if-command-put-requires t)
+    (if-command-larger-requires t)
+    (if-command-with-need-requires t)
+    (if-command-same-length-7 t)
+    (if-command-same-length-8 t)
+    (if-command-returns-4 t))
+    (λ t. nested-lts.spec (nested-claims t)
+    (nested-at t)
+    nested.Post
+    (nested-if-command-requires t)
+    (nested-while-command-requires t)
+    (nested-block-requires t)
+    (nested-same-length t)
+    (nested-same-length-2 t)
+    (nested-returns t)
+    (nested-same-length-3 t)
+    (nested-same-length-4 t)
+    (nested-returns-2 t)
+    (nested-same-length-5 t)
+    (nested-same-length-6 t)
+    (nested-returns-3 t))
+    λ t. while-command-lts.spec (while-command-claims t)
+    (while-command-at t)
+    while-command.Post
+    (while-command-condition-requires t)
+    (while-command-enum-known-r t)
+    (while-command-enum-told t)
+    (while-command-same-length t)
+    (while-command-same-length-2 t)
+    (while-command-returns t)
+    (while-command-expect-requires t)
+    (while-command-enum-known-s t)
+    (while-command-enum-told-2 t)
+    (while-command-same-length-3 t)
+    (while-command-same-length-4 t)
+    (while-command-returns-2 t)
+    (while-command-skipped-requires t)
+    (while-command-command-requires t)
+    (while-command-enum-known-t t)
+    (while-command-enum-told-3 t)
+    (while-command-same-length-5 t)
+    (while-command-same-length-6 t)
+    (while-command-returns-3 t)
+    (while-command-add-put t)
+    (while-command-cast-put t)
+    (while-command-put-requires t)
+    (while-command-cast-emitted t)
+    (while-command-larger-requires t)
+    (while-command-emitted-requires t)
+    (while-command-same-length-7 t)
+    (while-command-same-length-8 t)
+    (while-command-returns-4 t)
