@@ -8,6 +8,7 @@ pub mod Lexed
 pub mod Looked
 pub mod Others
 pub mod Passes
+pub mod Programs
 pub mod Reading
 pub mod Sizes
 pub mod Stores
