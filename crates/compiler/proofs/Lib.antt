@@ -1,4 +1,5 @@
 pub mod Commands
+pub mod Decides
 pub mod Emits
 pub mod Filled
 pub mod Firsts
@@ -10,5 +11,6 @@ pub mod Others
 pub mod Passes
 pub mod Programs
 pub mod Reading
+pub mod Refusals
 pub mod Sizes
 pub mod Stores

@@ -1,4 +1,4 @@
--- How a whole Program is read, named and written: a law for each answer of its readers. Assumes nothing.
+-- How a whole Program is read: a law for each way that its reader comes to an answer. Assumes nothing.
 use mathlib.Core.Path.{_≡_}
 use mathlib.Core.List.{List}
 use Prim.Native.Nat.{ℕ, _≤_}
@@ -17,8 +17,6 @@ use Rattle.compiler.proofs.Looked.{seen}
 use Rattle.compiler.proofs.Reading.{Met, met, missed, after-met, clean-passed}
 use Rattle.compiler.proofs.Commands.{program-read, program-unended, program-refused, no-program}
 use Rattle.compiler.proofs.Lays.{lead, ready-moved}
-
--- ---- reading
 
 module _ {sizes : Sizes} {text names : List ℕ} {place : ℕ} (o : Set-out sizes text names place) (limit : ℕ) {r : Read} where
   -- no DO
