@@ -1,5 +1,6 @@
 pub mod Bodies
 pub mod Commands
+pub mod Decides
 pub mod Emits
 pub mod Expected
 pub mod Filled
@@ -10,6 +11,8 @@ pub mod Lexed
 pub mod Looked
 pub mod Others
 pub mod Passes
+pub mod Programs
 pub mod Reading
+pub mod Refusals
 pub mod Sizes
 pub mod Stores
