@@ -5,6 +5,7 @@ pub mod Firsts
 pub mod Found
 pub mod Lays
 pub mod Lexed
+pub mod Literals
 pub mod Looked
 pub mod Others
 pub mod Passes
