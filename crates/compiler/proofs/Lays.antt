@@ -291,11 +291,11 @@ module _ (text names : List ℕ) (w : Walk) where
         by Nowhere e false f = unfold noted-walk faulted-walk in refuses (w .fault) (w .place) (pass-faulted (used (name-at text place)) f) (rw f (stand-faulted f))
 
 -- the walks differ in their refusals at most
-record Beside (w v : Walk) : Type 0 where
-  at : v .at ≡ w .at
-  code : v .code ≡ w .code
-  need : v .need ≡ w .need
-  declared : v .declared ≡ w .declared
+pub record Beside (w v : Walk) : Type 0 where
+  pub at : v .at ≡ w .at
+  pub code : v .code ≡ w .code
+  pub need : v .need ≡ w .need
+  pub declared : v .declared ≡ w .declared
 
 beside-itself : (w : Walk) → Beside w w
 beside-itself w = record { at = refl; code = refl; need = refl; declared = refl }
@@ -308,7 +308,7 @@ faulted-beside w n p = by (eqb (w .fault) 0)
     by true = record { at = refl; code = refl; need = refl; declared = refl }
     by false = beside-itself w
 
-noted-beside : (c : Cell) (w : Walk) (p : ℕ) → Beside w (noted-walk c w p)
+pub noted-beside : (c : Cell) (w : Walk) (p : ℕ) → Beside w (noted-walk c w p)
 unfolding noted-walk
 noted-beside (At k) w p = beside-itself w
 noted-beside Nowhere w p = faulted-beside w 6 p
