@@ -10,5 +10,6 @@ pub mod Looked
 pub mod Others
 pub mod Passes
 pub mod Reading
+pub mod Replies
 pub mod Sizes
 pub mod Stores
