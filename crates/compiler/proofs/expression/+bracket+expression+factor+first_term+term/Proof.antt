@@ -99,6 +99,7 @@ neither k h =
     let other : (n : Kind) → k ≡ n → OneOf other-kinds (tagOf the-type n) = λ n e. subst (λ x. OneOf other-kinds (tagOf the-type x)) e h in
     ((λ v e. miss other-kinds 0 tt (other _ e)), λ e. miss other-kinds 1 tt (other _ e))
 
+-- a Term of one Factor so far
 first-factor : {text names : List ℕ} {table table′ : List ℤ} {w v : Walk} {allow : ℕ} → Got factor-way text names table w allow names table′ v → Got term-so-far text names table w allow names table′ v
 first-factor {text} {w} {allow} g = record { what = S.first (g .what); passed = term-first text (w .at) allow .passes (g .what) (g .passed); laid = lays-first (g .laid) }
 
@@ -216,6 +217,7 @@ expression-returns t c = rw (c .enum-told .given .1) (rw (c .enum-told .given .1
 expression-loop-holds : (t : ℕ) → expression-lts.Need-loop-holds (expression-calls t) (expression-at t) expression.Post expression-Inv-loop expression-μ-loop
 expression-loop-holds t c = record { count = refl; on = λ before w g. g }
 
+-- the expression so far, in the loop
 expression-now : (t : ℕ) (c : expression-lts.At-loop (expression-calls t) (expression-at t) expression.Post expression-Inv-loop expression-μ-loop) → Got first-term-way (now (c .before .before .before .before .before .before .before .before .before .args .text)) (now (c .before .before .before .before .before .before .before .before .before .args .names)) (now (c .before .before .before .before .before .before .before .before .before .args .table)) (c .before .before .before .before .before .before .before .before .before .args .w) (c .before .before .before .before .before .before .before .before .before .args .allow) (now (c .before .before .before .before .before .before .before .before .before .args .names)) (c .loop .table) (c .loop .left)
 expression-now t c = c .loop .inv .on _ _ (got first-term-way (c .before .before .first .given .1) (c .before .before .before .before .before .first-term .ensures))
 
@@ -235,6 +237,7 @@ expression-returns-2 t c = let g = expression-now t (c .before .before .before) 
 expression-moved-requires : (t : ℕ) → expression-lts.Need-moved-requires (expression-calls t) (expression-at t) expression.Post expression-Inv-loop expression-μ-loop
 expression-moved-requires t c κs = search needs
 
+-- a sign stands next
 expression-operator : (t : ℕ) (c : expression-lts.After-term-arg (expression-calls t) (expression-at t) expression.Post expression-Inv-loop expression-μ-loop) → At-operator sign-number (sizes-of (c .before .before .before .before .before .before .before .before .before .before .before .before .before .pre .1)) (now (c .before .before .before .before .before .before .before .before .before .before .before .before .before .args .text)) (now (c .before .before .before .before .before .before .before .before .before .before .before .before .before .args .names)) (c .before .before .before .before .loop .left) (c .before .before .before .before .before .before .before .before .before .before .before .before .before .args .allow) (c .before .before .before .look .result)
 expression-operator t c = record { ready = ready-got (c .before .before .before .before .before .before .before .before .before .before .before .before .before .pre .1) (expression-now t (c .before .before .before .before)); looks = c .before .before .before .look .ensures; some = λ z. c .before .if1 .left (c .before .before .sign-of .ensures ∙ z) }
 
@@ -254,6 +257,7 @@ expression-returns-3 : (t : ℕ) → expression-lts.Need-returns-3 (expression-c
 unfolding Reads moved-to
 expression-returns-3 t c = rw (c .enum-told2 .given .1) (right-refused expression-joins (expression-operator t (c .before .before .before .before .before)) (expression-now t (c .before .before .before .before .before .before .before .before .before)) _ _ (rw (c .enum-told2 .given .1, c .before .before .before .before .moved .ensures) at (c .before .before .before .term .ensures)))
 
+-- the Term after it
 expression-right : (t : ℕ) (c : expression-lts.After-known-told2 (expression-calls t) (expression-at t) expression.Post expression-Inv-loop expression-μ-loop) → Got term-way (now (c .before .before .before .before .before .before .before .before .before .before .before .before .before .before .before .before .before .before .before .args .text)) (now (c .before .before .before .before .before .before .before .before .before .before .before .before .before .before .before .before .before .before .before .args .names)) (c .before .before .before .before .before .before .before .before .before .before .loop .table) (moved-to (c .before .before .before .before .before .before .before .before .before .before .loop .left) (c .before .before .before .before .before .before .before .before .before .look .result .end)) (c .before .before .before .before .before .before .before .before .before .before .before .before .before .before .before .before .before .before .before .args .allow) (now (c .before .before .before .before .before .before .before .before .before .before .before .before .before .before .before .before .before .before .before .args .names)) (c .before .before .before .before .term .last .1 .1 .0) (c .before .r .given .0 .0)
 expression-right t c = got term-way (c .before .r .given .1) (rw (c .before .before .before .before .before .moved .ensures) at (c .before .before .before .before .term .ensures))
 
@@ -313,6 +317,7 @@ factor-moved-requires-3 t c κs = search needs
 factor-sub-bracket : (t : ℕ) → factor-lts.Need-sub-bracket (factor-calls t) (factor-at t) factor.Post
 factor-sub-bracket t c = search needs
 
+-- `(` stands next
 factor-open : (t : ℕ) (c : factor-lts.After-bracket-arg (factor-calls t) (factor-at t) factor.Post) → fixed-number (c .before .before .before .before .before .look .result .kind) ≡ 40
 factor-open t c = sym (c .before .before .before .fixed-of .ensures) ∙ c .before .before .if1 .left
 
@@ -378,6 +383,7 @@ first-term-returns-2 : (t : ℕ) → first-term-lts.Need-returns-2 (first-term-c
 unfolding Reads moved-to
 first-term-returns-2 t c = rw (c .enum-told .given .1) (sign-refused _ (c .before .before .before .before .before .before .before .before .before .before .before .pre .1) (ready-seen (c .before .before .before .before .before .before .before .before .before .before .before .pre .1) (c .before .before .before .before .before .before .before .before .look .ensures)) (λ z. c .before .before .before .before .before .before .if1 .left (c .before .before .before .before .before .before .before .sign-of .ensures ∙ z)) _ _ (rw (c .enum-told .given .1, c .before .before .before .before .moved .ensures) at (c .before .before .before .term2 .ensures)))
 
+-- the Term after the sign
 first-term-got : (t : ℕ) (c : first-term-lts.After-known-told (first-term-calls t) (first-term-at t) first-term.Post) → Got term-way (now (c .before .before .before .before .before .before .before .before .before .before .before .before .args .text)) (now (c .before .before .before .before .before .before .before .before .before .before .before .before .args .names)) (now (c .before .before .before .before .before .before .before .before .before .before .before .before .args .table)) (moved-to (c .before .before .before .before .before .before .before .before .before .before .before .before .args .w) (c .before .before .before .before .before .before .before .before .before .look .result .end)) (c .before .before .before .before .before .before .before .before .before .before .before .before .args .allow) (now (c .before .before .before .before .before .before .before .before .before .before .before .before .args .names)) (c .before .before .before .before .term2 .last .1 .1 .0) (c .before .r .given .0 .0)
 first-term-got t c = got term-way (c .before .r .given .1) (rw (c .before .before .before .before .before .moved .ensures) at (c .before .before .before .before .term2 .ensures))
 
@@ -421,6 +427,7 @@ term-returns t c = rw (c .enum-told .given .1) (term-first _ _ _ .refuses _ _ (r
 term-loop-holds : (t : ℕ) → term-lts.Need-loop-holds (term-calls t) (term-at t) term.Post term-Inv-loop term-μ-loop
 term-loop-holds t c = record { count = refl; on = λ before w g. g }
 
+-- the Term so far, in the loop
 term-now : (t : ℕ) (c : term-lts.At-loop (term-calls t) (term-at t) term.Post term-Inv-loop term-μ-loop) → Got term-so-far (now (c .before .before .before .before .before .before .before .before .before .args .text)) (now (c .before .before .before .before .before .before .before .before .before .args .names)) (now (c .before .before .before .before .before .before .before .before .before .args .table)) (c .before .before .before .before .before .before .before .before .before .args .w) (c .before .before .before .before .before .before .before .before .before .args .allow) (now (c .before .before .before .before .before .before .before .before .before .args .names)) (c .loop .table) (c .loop .left)
 term-now t c = c .loop .inv .on _ _ (first-factor (got factor-way (c .before .before .first .given .1) (c .before .before .before .before .before .factor .ensures)))
 
@@ -440,6 +447,7 @@ term-returns-2 t c = let g = term-now t (c .before .before .before) in (g .what,
 term-moved-requires : (t : ℕ) → term-lts.Need-moved-requires (term-calls t) (term-at t) term.Post term-Inv-loop term-μ-loop
 term-moved-requires t c κs = search needs
 
+-- `*` or `/` stands next
 term-operator : (t : ℕ) (c : term-lts.After-factor-arg2 (term-calls t) (term-at t) term.Post term-Inv-loop term-μ-loop) → At-operator mul-number (sizes-of (c .before .before .before .before .before .before .before .before .before .before .before .before .before .pre .1)) (now (c .before .before .before .before .before .before .before .before .before .before .before .before .before .args .text)) (now (c .before .before .before .before .before .before .before .before .before .before .before .before .before .args .names)) (c .before .before .before .before .loop .left) (c .before .before .before .before .before .before .before .before .before .before .before .before .before .args .allow) (c .before .before .before .look .result)
 term-operator t c = record { ready = ready-got (c .before .before .before .before .before .before .before .before .before .before .before .before .before .pre .1) (term-now t (c .before .before .before .before)); looks = c .before .before .before .look .ensures; some = λ z. c .before .if1 .left (c .before .before .mul-of .ensures ∙ z) }
 
@@ -459,6 +467,7 @@ term-returns-3 : (t : ℕ) → term-lts.Need-returns-3 (term-calls t) (term-at t
 unfolding Reads moved-to
 term-returns-3 t c = rw (c .enum-told2 .given .1) (right-refused term-joins (term-operator t (c .before .before .before .before .before)) (term-now t (c .before .before .before .before .before .before .before .before .before)) _ _ (rw (c .enum-told2 .given .1, c .before .before .before .before .moved .ensures) at (c .before .before .before .factor2 .ensures)))
 
+-- the Factor after it
 term-right : (t : ℕ) (c : term-lts.After-known-told2 (term-calls t) (term-at t) term.Post term-Inv-loop term-μ-loop) → Got factor-way (now (c .before .before .before .before .before .before .before .before .before .before .before .before .before .before .before .before .before .before .before .args .text)) (now (c .before .before .before .before .before .before .before .before .before .before .before .before .before .before .before .before .before .before .before .args .names)) (c .before .before .before .before .before .before .before .before .before .before .loop .table) (moved-to (c .before .before .before .before .before .before .before .before .before .before .loop .left) (c .before .before .before .before .before .before .before .before .before .look .result .end)) (c .before .before .before .before .before .before .before .before .before .before .before .before .before .before .before .before .before .before .before .args .allow) (now (c .before .before .before .before .before .before .before .before .before .before .before .before .before .before .before .before .before .before .before .args .names)) (c .before .before .before .before .factor2 .last .1 .1 .0) (c .before .r .given .0 .0)
 term-right t c = got factor-way (c .before .r .given .1) (rw (c .before .before .before .before .before .moved .ensures) at (c .before .before .before .before .factor2 .ensures))
 

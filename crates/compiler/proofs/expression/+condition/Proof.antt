@@ -62,6 +62,7 @@ condition-moved-requires t c κs = search needs
 condition-sub-condition : (t : ℕ) → condition-lts.Need-sub-condition (condition-calls t) (condition-at t) condition.Post
 condition-sub-condition t c = search needs
 
+-- NOT stands next
 condition-NOT : (t : ℕ) (c : condition-lts.After-condition-arg (condition-calls t) (condition-at t) condition.Post) → fixed-number (c .before .before .before .before .look .result .kind) ≡ 10
 condition-NOT t c = sym (c .before .before .before .fixed-of .ensures) ∙ c .before .before .if1 .left
 
@@ -84,6 +85,7 @@ condition-returns-3 : (t : ℕ) → condition-lts.Need-returns-3 (condition-call
 unfolding Reads moved-to
 condition-returns-3 t c = rw (c .enum-told .given .1) (negated-leads (ready-seen (c .before .before .before .before .before .before .before .before .before .before .before .before .pre .1) (c .before .before .before .before .before .before .before .before .before .look .ensures)) _ (condition-NOT t (c .before .before .before .before .before)) (c .before .before .before .before .before .before .if2 .left) .refuses _ _ (rw (c .enum-told .given .1, c .before .before .before .before .moved .ensures) at (c .before .before .before .condition .ensures)))
 
+-- the condition after it
 condition-inner : (t : ℕ) (c : condition-lts.After-known-told (condition-calls t) (condition-at t) condition.Post) → Got condition-way (now (c .before .before .before .before .before .before .before .before .before .before .before .before .before .args .text)) (now (c .before .before .before .before .before .before .before .before .before .before .before .before .before .args .names)) (now (c .before .before .before .before .before .before .before .before .before .before .before .before .before .args .table)) (moved-to (c .before .before .before .before .before .before .before .before .before .before .before .before .before .args .w) (c .before .before .before .before .before .before .before .before .before .before .look .result .end)) (c .before .before .before .before .before .before .before .before .before .before .before .before .before .args .allow - 1) (now (c .before .before .before .before .before .before .before .before .before .before .before .before .before .args .names)) (c .before .before .before .before .condition .last .1 .1 .0) (c .before .r .given .0 .0)
 condition-inner t c = got condition-way (c .before .r .given .1) (rw (c .before .before .before .before .before .moved .ensures) at (c .before .before .before .before .condition .ensures))
 

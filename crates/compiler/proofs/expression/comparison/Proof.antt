@@ -27,6 +27,7 @@ returns : tie.Need-returns
 unfolding Reads
 returns c = rw (c .enum-told .given .1) (comparison-refused _ _ _ _ _ (rw (c .enum-told .given .1) at (c .before .before .before .expression .ensures)))
 
+-- the left side
 left : (c : tie.After-known-told) → Got expression-way (now (c .before .before .before .before .before .before .before .before .args .text)) (now (c .before .before .before .before .before .before .before .before .args .names)) (now (c .before .before .before .before .before .before .before .before .args .table)) (c .before .before .before .before .before .before .before .before .args .w) (c .before .before .before .before .before .before .before .before .args .allow) (now (c .before .before .before .before .before .before .before .before .args .names)) (c .before .before .before .before .expression .last .1 .1 .0) (c .before .left .given .0 .0)
 left c = got expression-way (c .before .left .given .1) (c .before .before .before .before .expression .ensures)
 
@@ -46,6 +47,7 @@ returns-2 c = let g = left (c .before .before .before) in no-relation _ (g .what
 moved-requires : tie.Need-moved-requires
 moved-requires c κs = search needs
 
+-- a relation stands next
 operator : (c : tie.After-expression-arg2) → At-operator rel-number (sizes-of (c .before .before .before .before .before .before .before .before .before .before .before .before .pre)) (now (c .before .before .before .before .before .before .before .before .before .before .before .before .args .text)) (now (c .before .before .before .before .before .before .before .before .before .before .before .before .args .names)) (c .before .before .before .before .before .left .given .0 .0) (c .before .before .before .before .before .before .before .before .before .before .before .before .args .allow) (c .before .before .before .look .result)
 operator c = record { ready = ready-got (c .before .before .before .before .before .before .before .before .before .before .before .before .pre) (left (c .before .before .before .before)); looks = c .before .before .before .look .ensures; some = λ z. c .before .if1 .left (c .before .before .rel-of .ensures ∙ z) }
 
@@ -68,6 +70,7 @@ returns-3 c = rw (c .enum-told2 .given .1) (right-refused comparison-joins (oper
 operation-requires : tie.Need-operation-requires
 operation-requires c κs = search needs
 
+-- the right side
 right : (c : tie.After-known-told2) → Got expression-way (now (c .before .before .before .before .before .before .before .before .before .before .before .before .before .before .before .before .before .before .args .text)) (now (c .before .before .before .before .before .before .before .before .before .before .before .before .before .before .before .before .before .before .args .names)) (c .before .before .before .before .before .before .before .before .before .before .before .before .before .before .expression .last .1 .1 .0) (moved-to (c .before .before .before .before .before .before .before .before .before .before .before .left .given .0 .0) (c .before .before .before .before .before .before .before .before .before .look .result .end)) (c .before .before .before .before .before .before .before .before .before .before .before .before .before .before .before .before .before .before .args .allow) (now (c .before .before .before .before .before .before .before .before .before .before .before .before .before .before .before .before .before .before .args .names)) (c .before .before .before .before .expression2 .last .1 .1 .0) (c .before .right .given .0 .0)
 right c = got expression-way (c .before .right .given .1) (rw (c .before .before .before .before .before .moved .ensures) at (c .before .before .before .before .expression2 .ensures))
 
