@@ -2,17 +2,15 @@
 use Prim.Native.Nat.{ℕ, zero, suc, _-_, _≤_, _<_}
 use mathlib.Core.Path.{_≡_, refl, ap, _∙_}
 use mathlib.Core.List.{List}
-use mathlib.Core.Bool.{Bool, true, false, cond}
+use mathlib.Core.Bool.{Bool, true, false}
 use native.Mathlib.Omega.{arith}
-use lib.Dec.{eqb}
 use lib.ListN.{getD}
 use Rattle.lexeme.specs.Bytes.{same}
 use Rattle.names.specs.Names.{Declaration}
 use Rattle.compiler.specs.declared.scope.Cell.{Cell}
 use Rattle.compiler.specs.declared.scope.Cell.the-variants.{At, Nowhere}
-use Rattle.compiler.specs.declared.walk.Walk.{Walk}
 use Rattle.compiler.specs.Scopes.{word-at, entered, declarations}
-use Rattle.compiler.specs.Steps.{found, names-it, cell-number, noted-walk, faulted-walk}
+use Rattle.compiler.specs.Steps.{found, names-it, cell-number}
 
 -- the look-up after the test of its latest entry
 module _ (text : List ℕ) (k : ℕ) (ds : List Declaration) (place : ℕ) where
@@ -60,13 +58,3 @@ found-below text names letters (suc k) = by-entry (found-below text names letter
     by-entry : cell-number (found (declarations text names k) letters) ≤ k → (e : ℕ) → cell-number (found (entered text k e (declarations text names k)) letters) ≤ suc k
     by-entry h zero = omega arith
     by-entry h (suc p) = by-test h (same (word-at text p) letters)
-
--- a use of a name leaves the place of the code
-pub noted-code : (f : Cell) (w : Walk) (place : ℕ) → noted-walk f w place .code ≡ w .code
-unfolding noted-walk faulted-walk
-noted-code (At k) w place = refl
-noted-code Nowhere w place = by-test (eqb (w .fault) 0)
-  where
-    by-test : (t : Bool) → cond t (record { at = w .at; code = w .code; need = w .need; declared = w .declared; fault = 6; place = place }) w .code ≡ w .code
-    by-test true = refl
-    by-test false = refl

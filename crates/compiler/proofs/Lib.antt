@@ -8,11 +8,13 @@ pub mod Firsts
 pub mod Found
 pub mod Lays
 pub mod Lexed
+pub mod Literals
 pub mod Looked
 pub mod Others
 pub mod Passes
 pub mod Programs
 pub mod Reading
 pub mod Refusals
+pub mod Replies
 pub mod Sizes
 pub mod Stores

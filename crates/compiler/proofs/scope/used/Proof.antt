@@ -10,7 +10,8 @@ use lib.IntN.{pos}
 use Rattle.compiler.specs.Steps.{cell-number}
 use Rattle.compiler.specs.Scopes.{word-at}
 use Rattle.compiler.proofs.Stores.{count-fits}
-use Rattle.compiler.proofs.Found.{found-below, noted-code}
+use Rattle.compiler.proofs.Found.{found-below}
+use Rattle.compiler.proofs.Lays.{noted-beside}
 use Rattle.compiler.proofs.scope.used.Statement.{statement}
 use Rattle.compiler.proofs.scope.used.Tie as tie
 
@@ -30,7 +31,7 @@ cast-emitted : tie.Need-cast-emitted
 cast-emitted c = fits c
 
 emitted-requires : tie.Need-emitted-requires
-emitted-requires c κs = rw (c .noted .ensures, noted-code _ _ _) (omega arith)
+emitted-requires c κs = rw (c .noted .ensures, noted-beside _ _ _ .code) (omega arith)
 
 same-length : tie.Need-same-length
 same-length c = search needs
@@ -38,7 +39,7 @@ same-length c = search needs
 returns : tie.Need-returns
 returns c = (
   c .before .emitted .ensures .0 ∙ rw (c .before .before .noted .ensures, c .before .before .before .before .before .look-up .ensures),
-  rw (toZ-ofZ (c .before .before .before .before .before .before .before .before .fits .operation), toZ-ofZ (fits (c .before .before)), c .before .before .noted .ensures, noted-code _ _ _, c .before .before .before .before .cell-of .ensures, c .before .before .before .before .before .look-up .ensures) at (c .before .emitted .ensures .1),
+  rw (toZ-ofZ (c .before .before .before .before .before .before .before .before .fits .operation), toZ-ofZ (fits (c .before .before)), c .before .before .noted .ensures, noted-beside _ _ _ .code, c .before .before .before .before .cell-of .ensures, c .before .before .before .before .before .look-up .ensures) at (c .before .emitted .ensures .1),
 )
 
 pub used-spec : {M : Type 1} → statement M

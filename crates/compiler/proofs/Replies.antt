@@ -1,0 +1,134 @@
+-- What a reader's answer says, taken apart, and handed on by the reader that called it. Assumes nothing.
+use mathlib.Core.Path.{_≡_}
+use mathlib.Core.List.{List, [], _∷_}
+use Prim.Native.Nat.{ℕ, _+_, _≤_, _<_, max}
+use native.Mathlib.Nat.{le-refl}
+use native.Mathlib.Omega.{arith}
+use lib.IntN.{ℤ, pos}
+use lib.ListN.{length}
+use Rattle.lexeme.specs.Lexemes.{Name, Sizes}
+use Rattle.lexeme.specs.Coded.{sign-code, mul-code, rel-code}
+use Rattle.lexeme.specs.declared.Kind as lexeme
+use Rattle.lexeme.specs.declared.Lexeme as code
+use Rattle.sentence.specs.Sentences.{Kind, Sen, multiply, add, compare}
+use Rattle.compiler.specs.declared.walk.Walk.{Walk}
+use Rattle.compiler.specs.declared.walk.Read.{Read}
+use Rattle.compiler.specs.declared.walk.Read.the-variants.{Done, Refused}
+use Rattle.compiler.specs.Lexing.{Looks, Clean}
+use Rattle.compiler.specs.Steps.{moved-to, one-more, operation-number, fixed-number, sign-number, mul-number, rel-number}
+use Rattle.compiler.specs.Tables.{put}
+use Rattle.compiler.specs.Walks.{Refuses, Lays, Ready, Reads}
+use Rattle.compiler.proofs.Looked.{Seen, seen, mul-found, sign-found, rel-found}
+use Rattle.compiler.proofs.Reading.{Way, Passed, Leads, After, after-fixed, after-mul, after-sign, after-rel, clean-passed}
+use Rattle.compiler.proofs.Passes.{factor-way, term-so-far, term-way, first-term-way, expression-way, comparison-way, term-more, expression-more, compare-leads}
+use Rattle.compiler.proofs.Lays.{lays-multiply, lays-add, lays-compare, ready-moved, ready-after, counts-fit}
+
+-- a construct was read and written by the walk from w to v
+pub record Got {k : Kind} (way : Way k (Sen Name k)) (text names : List ℕ) (table : List ℤ) (w : Walk) (allow : ℕ) (names′ : List ℕ) (table′ : List ℤ) (v : Walk) : Type 0 where
+  pub what : Sen Name k
+  pub passed : Passed way text (w .at) (v .at) allow what
+  pub laid : Lays text names table w what names′ table′ v
+
+-- a round of a loop leads to the walk `left`, whatever was read before the loop
+pub record Rounds {k : Kind} (way : Way k (Sen Name k)) (text names : List ℕ) (table₀ : List ℤ) (allow : ℕ) (left₀ : Walk) (table : List ℤ) (left : Walk) : Type 0 where
+  pub count : length table ≡ length table₀
+  pub on : (before : List ℤ) (w : Walk) → Got way text names before w allow names table₀ left₀ → Got way text names before w allow names table left
+
+module _ {k : Kind} (way : Way k (Sen Name k)) {text names names′ : List ℕ} {table table′ : List ℤ} {w : Walk} {allow : ℕ} {r : Read} where
+  pub got : {v : Walk} → r ≡ Done v → Reads k (way .start) (way .stop) text names table w allow r names′ table′ → Got way text names table w allow names′ table′ v
+  unfolding Reads
+  got e q = let p = rw e at q in record { what = p .0; passed = p .1; laid = p .2 }
+
+  pub done : {v : Walk} → r ≡ Done v → Got way text names table w allow names′ table′ v → Reads k (way .start) (way .stop) text names table w allow r names′ table′
+  unfolding Reads
+  done e g = rw e (g .what, g .passed, g .laid)
+
+-- the whole answer is the caller's
+module _ {k k′ : Kind} {way : Way k (Sen Name k)} {way′ : Way k′ (Sen Name k′)} {makes : Sen Name k′ → Sen Name k} {text names names′ : List ℕ} {table table′ : List ℤ} {w u : Walk} {allow allow′ : ℕ} where
+  pub handed-on : Leads text (w .at) (u .at) allow way allow′ way′ makes → ((x : Sen Name k′) (v : Walk) → Lays text names table u x names′ table′ v → Lays text names table w (makes x) names′ table′ v) →
+      (r : Read) → Reads k′ (way′ .start) (way′ .stop) text names table u allow′ r names′ table′ → Reads k (way .start) (way .stop) text names table w allow r names′ table′
+  unfolding Reads
+  handed-on l f (Done v) q = (makes (q .0), l .passes (q .0) (q .1), f (q .0) v (q .2))
+  handed-on l f (Refused n p) q = l .refuses n p q
+
+-- ---- what the next reader may be called with
+
+pub ready-seen : {sizes : Sizes} {text names : List ℕ} {w : Walk} {allow : ℕ} {r : code.Lexeme} → Ready sizes text names w allow → Looks text (w .at) r → Seen text (w .at) r
+ready-seen {sizes} {text} {w} {r} a l = seen sizes text (w .at) r (a .clean) l
+
+module _ {sizes : Sizes} {text names : List ℕ} {w : Walk} {allow : ℕ} (a : Ready sizes text names w allow) where
+  abbrev pub sizes-of : Sizes
+  sizes-of = sizes
+
+  -- a fixed lexeme that is not the end
+  pub fixed-after : {r : code.Lexeme} {n : ℕ} → Seen text (w .at) r → fixed-number (r .kind) ≡ n → 0 < n → After sizes text (w .at) (r .end)
+  fixed-after s h p = after-fixed sizes (a .clean) s (λ z. omega arith)
+
+  -- after a lexeme, with no more nestings allowed
+  pub ready-next : {e : ℕ} (fewer : ℕ) → fewer ≤ allow → After sizes text (w .at) e → Ready sizes text names (moved-to w e) fewer
+  ready-next {e} fewer f n = ready-moved a e fewer f (omega (arith, n .later)) (n .inside) (n .clean)
+
+  pub code-fits : w .code < 10000000
+  code-fits = omega (arith, a .code, a .inside, a .short)
+
+  module _ {k : Kind} {way : Way k (Sen Name k)} {names′ : List ℕ} {table table′ : List ℤ} {v : Walk} (g : Got way text names table w allow names′ table′ v) where
+    pub ready-got : Ready sizes text names′ v allow
+    unfolding moved-to
+    ready-got = ready-after a (g .laid) (v .at) (le-refl (v .at)) (g .passed .inside) (clean-passed sizes (g .passed) (a .clean))
+
+    pub counts-got : (v .code < 10000000) × (v .need < 10000000)
+    counts-got = counts-fit a (g .laid) (g .passed .inside)
+
+-- ---- two sides and the operator or relation between them
+
+pub record Joins {A : Type 0} {k k′ k″ : Kind} (number : lexeme.Kind → ℕ) (coded : A → ℕ) (way : Way k (Sen Name k)) (way′ : Way k′ (Sen Name k′)) (out : Way k″ (Sen Name k″)) (make : Sen Name k → A → Sen Name k′ → Sen Name k″) : Type 0 where
+  pub found : {text : List ℕ} {at : ℕ} {r : code.Lexeme} → Seen text at r → (number (r .kind) ≡ 0 → ⊥) → (o : A) × (number (r .kind) ≡ coded o)
+  pub after : {text : List ℕ} {at : ℕ} {r : code.Lexeme} (sizes : Sizes) → Clean sizes text at → Seen text at r → (o : A) → number (r .kind) ≡ coded o → After sizes text at (r .end)
+  pub more : {text : List ℕ} {at m : ℕ} {r : code.Lexeme} (allow : ℕ) (x : Sen Name k) → Passed way text at m allow x → Seen text m r → (o : A) → number (r .kind) ≡ coded o → Leads text at (r .end) allow out allow way′ (make x o)
+  pub lays : {text names names₁ names₂ : List ℕ} {table table₁ table₂ : List ℤ} {w left v : Walk} {x : Sen Name k} {y : Sen Name k′} (o : A) (e : ℕ) → left .at < e → Lays text names table w x names₁ table₁ left → Lays text names₁ table₁ (moved-to left e) y names₂ table₂ v →
+      Lays text names table w (make x o y) names₂ (put table₂ (v .code) (operation-number (coded o) ∷ pos 0 ∷ [])) (one-more v (max (left .need) (1 + v .need)))
+
+pub term-joins : Joins mul-number mul-code term-so-far factor-way term-so-far multiply
+term-joins = record { found = mul-found; after = after-mul; more = term-more; lays = lays-multiply }
+
+pub expression-joins : Joins sign-number sign-code first-term-way term-way first-term-way add
+expression-joins = record { found = sign-found; after = after-sign; more = expression-more; lays = lays-add }
+
+pub comparison-joins : Joins rel-number rel-code expression-way expression-way comparison-way compare
+comparison-joins = record { found = rel-found; after = after-rel; more = compare-leads; lays = lays-compare }
+
+-- the left side was read, and an operator or relation stands next
+pub record At-operator (number : lexeme.Kind → ℕ) (sizes : Sizes) (text names : List ℕ) (left : Walk) (allow : ℕ) (l : code.Lexeme) : Type 0 where
+  pub ready : Ready sizes text names left allow
+  pub looks : Looks text (left .at) l
+  pub some : number (l .kind) ≡ 0 → ⊥
+
+module _ {A : Type 0} {k k′ k″ : Kind} {number : lexeme.Kind → ℕ} {coded : A → ℕ} {way : Way k (Sen Name k)} {way′ : Way k′ (Sen Name k′)} {out : Way k″ (Sen Name k″)} {make : Sen Name k → A → Sen Name k′ → Sen Name k″} (j : Joins number coded way way′ out make)
+    {sizes : Sizes} {text names : List ℕ} {left : Walk} {allow : ℕ} {l : code.Lexeme} (o : At-operator number sizes text names left allow l) where
+  its-seen : Seen text (left .at) l
+  its-seen = ready-seen (o .ready) (o .looks)
+
+  operator : (x : A) × (number (l .kind) ≡ coded x)
+  operator = j .found its-seen (o .some)
+
+  pub operator-after : After sizes text (left .at) (l .end)
+  operator-after = j .after sizes (o .ready .clean) its-seen (operator .0) (operator .1)
+
+  pub right-ready : Ready sizes text names (moved-to left (l .end)) allow
+  right-ready = ready-next (o .ready) allow (le-refl allow) operator-after
+
+  module _ {names₀ : List ℕ} {table table₁ : List ℤ} {w : Walk} (g : Got way text names₀ table w allow names table₁ left) where
+    right-leads : Leads text (w .at) (l .end) allow out allow way′ (make (g .what) (operator .0))
+    right-leads = j .more allow (g .what) (g .passed) its-seen (operator .0) (operator .1)
+
+    pub right-refused : (n p : ℕ) → Refuses text (l .end) allow k′ (way′ .start) n p → Refuses text (w .at) allow k″ (out .start) n p
+    right-refused = right-leads .refuses
+
+    pub right-joined : {names₂ : List ℕ} {table₂ : List ℤ} {v : Walk} → Got way′ text names table₁ (moved-to left (l .end)) allow names₂ table₂ v →
+        Got out text names₀ table w allow names₂ (put table₂ (v .code) (operation-number (number (l .kind)) ∷ pos 0 ∷ [])) (one-more v (max (left .need) (1 + v .need)))
+    unfolding one-more moved-to
+    right-joined y = record {
+      what = make (g .what) (operator .0) (y .what);
+      passed = right-leads .passes (y .what) (y .passed);
+      laid = rw (operator .1) (j .lays (operator .0) (l .end) (operator-after .later) (g .laid) (y .laid));
+    }
