@@ -90,7 +90,16 @@ few (suc n) s = by-word (few n (past other (past separator s))) (reading (run ot
     by-word h none = omega arith
     by-word h (some z) = omega arith
 
-steps-append : (h : Held) (s t : List ℕ) → steps h (s ++ t) ≡ steps (steps h s) t
+-- an input, taken into the numbers l: its readings stand first, and they are counted; what stands past them is as it was
+pub at-once : (s : List ℕ) (l : List ℤ) →
+    let zs = readings (length l) s in
+    finished (steps (record { reader = start; numbers = l }) s) ≡ record { count = length zs; numbers = zs ++ drop (length zs) l }
+unfolding start left
+at-once s l =
+    let room : 0 + length l ≡ length l = omega arith in
+    takes s Between 0 (length l) l room ∙ gives-all l (readings (length l) s) (few (length l) s)
+
+pub steps-append : (h : Held) (s t : List ℕ) → steps h (s ++ t) ≡ steps (steps h s) t
 unfolding steps
 steps-append h [] t = refl
 steps-append h (b ∷ s) t = steps-append (step h b) s t
@@ -100,11 +109,8 @@ unfolding fed flatten steps
 fed-flatten h [] = refl
 fed-flatten h (c ∷ cs) = fed-flatten (steps h c) cs ∙ sym (steps-append h c (flatten cs))
 
--- an input that comes in chunks, taken into the numbers l: the readings of the whole input stand first, and they are counted; what stands past them is as it was
+-- the same of an input that comes in chunks
 pub whole : (chunks : List (List ℕ)) (l : List ℤ) →
     let zs = readings (length l) (flatten chunks) in
     finished (fed (record { reader = start; numbers = l }) chunks) ≡ record { count = length zs; numbers = zs ++ drop (length zs) l }
-unfolding start left
-whole chunks l =
-    let room : 0 + length l ≡ length l = omega arith in
-    ap finished (fed-flatten (held Between 0 l) chunks) ∙ (takes (flatten chunks) Between 0 (length l) l room ∙ gives-all l (readings (length l) (flatten chunks)) (few (length l) (flatten chunks)))
+whole chunks l = ap finished (fed-flatten (record { reader = start; numbers = l }) chunks) ∙ at-once (flatten chunks) l

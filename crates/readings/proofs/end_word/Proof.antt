@@ -1,7 +1,9 @@
 -- `readings::end_word` meets its contract. Assumes nothing.
+use mathlib.Core.Path.{refl}
 use denote.Ref.{now}
 use Rattle.readings.specs.Steps.{ended, ended-at}
-use Rattle.readings.proofs.Steps.{between-stays, over-stays}
+use Rattle.readings.specs.declared.Phase.the-variants.{Between, Over}
+use Rattle.readings.proofs.Steps.{stays}
 use borrow.Author.Needs.{needs}
 use Rattle.readings.proofs.end_word.Statement.{statement}
 use Rattle.readings.proofs.end_word.Tie as tie
@@ -25,7 +27,8 @@ enum-told-3 : tie.Need-enum-told-3
 enum-told-3 c = search needs
 
 returns : tie.Need-returns
-returns c = between-stays (c .before .before .args .r) (now (c .before .before .args .readings)) (c .enum-told .given .1)
+unfolding ended-at
+returns c = stays (c .before .before .args .r) (now (c .before .before .args .readings)) Between (c .enum-told .given .1) refl
 
 returns-2 : tie.Need-returns-2
 unfolding ended ended-at
@@ -39,7 +42,8 @@ unfolding ended ended-at
 returns-3 c = rw (c .before .before .before .before .phase .given .1) (c .before .store .ensures)
 
 returns-4 : tie.Need-returns-4
-returns-4 c = over-stays (c .before .before .args .r) (now (c .before .before .args .readings)) (c .enum-told3 .given .1)
+unfolding ended-at
+returns-4 c = stays (c .before .before .args .r) (now (c .before .before .args .readings)) Over (c .enum-told3 .given .1) refl
 
 pub end-word-spec : {M : Type 1} → statement M
 end-word-spec =
