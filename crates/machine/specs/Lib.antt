@@ -2,3 +2,4 @@ pub mod Endings
 pub mod Numbers
 pub mod Instructions
 pub mod Machine
+pub mod Coded

@@ -1,1 +1,3 @@
 // The machine: any code table, one numbered ending.
+pub mod arith;
+pub mod decode;

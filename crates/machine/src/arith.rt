@@ -1,0 +1,58 @@
+// Signed 32-bit numbers: computed at 64 bits, where nothing is lost, and brought back by one test of the range.
+ghost use mathlib.Core.Path.{_≡_};
+ghost use Rattle.machine.specs.Numbers.{in-range, calculate, truth};
+ghost use Rattle.machine.specs.Coded.{as-result, as-two-sided};
+
+pub enum Calculated {
+    Value(i32),
+    Ends(u8),
+}
+
+pub enum Operator {
+    Plus,
+    Minus,
+    Times,
+    Divide,
+    Equals,
+    Smaller,
+    Greater,
+}
+
+pub fn fit(z: i64) -> Calculated
+    ensures { λ r. ⌜ as-result r ≡ in-range z ⌝ }
+{
+    if z < -2147483648 {
+        return Calculated::Ends(4);
+    }
+    if 2147483647 < z {
+        return Calculated::Ends(4);
+    }
+    Calculated::Value(z as i32)
+}
+
+pub fn truth_of(t: bool) -> i32
+    ensures { λ r. ⌜ r ≡ truth t ⌝ }
+{
+    if t { 1 } else { 0 }
+}
+
+pub fn calculate_two(k: Operator, a: i32, b: i32) -> Calculated
+    ensures { λ r. ⌜ as-result r ≡ calculate (as-two-sided k) a b ⌝ }
+{
+    let x = a as i64;
+    let y = b as i64;
+    match k {
+        Operator::Plus => fit(x + y),
+        Operator::Minus => fit(x - y),
+        Operator::Times => fit(x * y),
+        Operator::Divide => {
+            if b == 0 {
+                return Calculated::Ends(5);
+            }
+            fit(x / y)
+        }
+        Operator::Equals => Calculated::Value(truth_of(a == b)),
+        Operator::Smaller => Calculated::Value(truth_of(a < b)),
+        Operator::Greater => Calculated::Value(truth_of(b < a)),
+    }
+}
