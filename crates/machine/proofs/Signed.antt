@@ -40,14 +40,17 @@ bits-pos (negsuc n) f h = omega (arith, f .sfits)
 no : true ≡ false → ⊥
 no h = let z : _≡_ {A = ℕ} 0 1 = cc in omega arith
 
-pub false-is : (b : ℤ) → SFits w32 b → ofZ w32 b ≡ 0 → is-false b ≡ true
+-- the test for 0, which tells of the bits
+pub zero-test : (b : ℤ) → SFits w32 b → eqb (ofZ w32 b) 0 ≡ is-false b
 unfolding is-false
-false-is b f e = rw (from-bits b f 0 (lit< tt) e)
+zero-test (pos n) f = refl
+zero-test (negsuc n) f = ne-eqb (4294967296 - suc n) 0 (λ (e : 4294967296 - suc n ≡ 0). omega (arith, f .sfits))
 
-pub false-not : (b : ℤ) → (ofZ w32 b ≡ 0 → ⊥) → is-false b ≡ false
-unfolding is-false
-false-not (pos n) h = ne-eqb n 0 h
-false-not (negsuc n) h = refl
+pub false-is : (b : ℤ) → SFits w32 b → ofZ w32 b ≡ 0 → is-false b ≡ true
+false-is b f e = sym (zero-test b f) ∙ eq-eqb (ofZ w32 b) 0 e
+
+pub false-not : (b : ℤ) → SFits w32 b → (ofZ w32 b ≡ 0 → ⊥) → is-false b ≡ false
+false-not b f h = sym (zero-test b f) ∙ ne-eqb (ofZ w32 b) 0 h
 
 pub not-below : (a : ℤ) → ltZ a (pos 0) ≡ false → T (nonNeg a)
 not-below (pos n) e = tt

@@ -2,6 +2,7 @@
 ghost use mathlib.Core.Path.{_≡_};
 ghost use Rattle.machine.specs.Numbers.{in-range, calculate, truth};
 ghost use Rattle.machine.specs.Coded.{as-result, as-two-sided};
+use super::endings;
 
 pub enum Calculated {
     Value(i32),
@@ -22,10 +23,10 @@ pub fn fit(z: i64) -> Calculated
     ensures { λ r. ⌜ as-result r ≡ in-range z ⌝ }
 {
     if z < -2147483648 {
-        return Calculated::Ends(4);
+        return Calculated::Ends(endings::OUTSIDE_RANGE);
     }
     if 2147483647 < z {
-        return Calculated::Ends(4);
+        return Calculated::Ends(endings::OUTSIDE_RANGE);
     }
     Calculated::Value(z as i32)
 }
@@ -47,7 +48,7 @@ pub fn calculate_two(k: Operator, a: i32, b: i32) -> Calculated
         Operator::Times => fit(x * y),
         Operator::Divide => {
             if b == 0 {
-                return Calculated::Ends(5);
+                return Calculated::Ends(endings::DIVISION_BY_0);
             }
             fit(x / y)
         }

@@ -1,3 +1,6 @@
 // The machine: any code table, one numbered ending.
-pub mod arith;
-pub mod decode;
+mod arith;
+mod decode;
+mod endings;
+mod stack;
+mod state;

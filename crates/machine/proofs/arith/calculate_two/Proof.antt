@@ -86,7 +86,7 @@ returns-4 c = rw (c .before .enum-told3 .given .1) (c .fit3 .ensures ∙ rw (bac
 
 returns-5 : tie.Need-returns-5
 unfolding calculate
-returns-5 c = rw (c .before .before .enum-told4 .given .1, false-not (c .before .before .before .before .args .b) (c .before .if1 .left)) (c .fit4 .ensures ∙ rw (back (c .before .before .before .before .fits .a), back (c .before .before .before .before .fits .b), toZ-ofZ (wide-quot (c .before .before .before .before .fits .a) (c .before .before .before .before .fits .b))))
+returns-5 c = rw (c .before .before .enum-told4 .given .1, false-not (c .before .before .before .before .args .b) (c .before .before .before .before .fits .b) (c .before .if1 .left)) (c .fit4 .ensures ∙ rw (back (c .before .before .before .before .fits .a), back (c .before .before .before .before .fits .b), toZ-ofZ (wide-quot (c .before .before .before .before .fits .a) (c .before .before .before .before .fits .b))))
 
 returns-6 : tie.Need-returns-6
 unfolding calculate

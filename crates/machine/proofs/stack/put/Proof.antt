@@ -1,0 +1,72 @@
+-- `stack::put` meets its contract. Assumes nothing.
+use mathlib.Core.Path.{_≡_, refl, sym, ap, _∙_}
+use Prim.Native.Nat.{_+_, _-_, _≤_, _<_}
+use native.Mathlib.Numerals.{add-one}
+use native.Mathlib.Omega.{arith}
+use borrow.Author.Needs.{needs}
+use borrow.Author.Tests.{lt-ltb, le-ltb}
+use denote.Ref.{now}
+use lib.IntN.{pos, negℤ, +ℤ-idl}
+use lib.ListN.{length, getD, set, length-set}
+use mir.Syntax.{w32}
+use mir.Val.{SFits}
+use mir.Facts.{toZ-ofZ}
+use Rattle.machine.specs.Endings.{bad-code}
+use Rattle.machine.specs.Numbers.{value, negation}
+use Rattle.machine.specs.Instructions.{push-int, load-stack, store-stack, jump, jump-if-false, two-sided, negate, not, read}
+use Rattle.machine.specs.Machine.{does, pushed, resulting, jumped, taken, reading, one-used}
+use Rattle.machine.specs.Coded.{live, as-two-sided, Good}
+use Rattle.machine.proofs.Signed.{back, widens, wide-negate, zero-test, false-is, false-not}
+use Rattle.machine.proofs.Cells.{length-live, live-none, live-top, live-two, peek-live, poke-live}
+use Rattle.machine.proofs.Steps.{stops, goes, puts, full, free, also, too-few, no-more, one-more}
+use Rattle.machine.proofs.stack.put.Statement.{statement}
+use Rattle.machine.proofs.stack.put.Tie as tie
+
+enum-known-n : tie.Need-enum-known-n
+enum-known-n c = search needs
+
+mul-v : tie.Need-mul-v
+mul-v c = search needs
+
+slice-set-from-v : tie.Need-slice-set-from-v
+slice-set-from-v c = search needs
+
+add-moved : tie.Need-add-moved
+add-moved c = search needs
+
+add-moved-2 : tie.Need-add-moved-2
+add-moved-2 c = search needs
+
+moved-requires : tie.Need-moved-requires
+moved-requires c κs = search needs
+
+enum-known-n-2 : tie.Need-enum-known-n-2
+enum-known-n-2 c = search needs
+
+same-length : tie.Need-same-length
+same-length c = search needs
+
+returns : tie.Need-returns
+returns c = λ lent before room g.
+    let v = c .before .before .before .n .given .0 .0 in
+    let f : SFits w32 (c .before .before .before .n .given .0 .0) = search needs in
+    rw (c .moved .ensures, toZ-ofZ {w = w32} {z = v} f, c .before .before .before .n .given .1) (puts g (c .before .before .before .before .before .args .d) v (c .before .before .before .before .before .pre .1))
+
+returns-2 : tie.Need-returns-2
+unfolding resulting
+returns-2 c = λ lent before room g. rw (c .before .n2 .given .1) (stops g _ _ refl)
+
+pub put-spec : {M : Type 1} → statement M
+put-spec =
+    tie.close
+    (tie.spec
+    enum-known-n
+    mul-v
+    slice-set-from-v
+    add-moved
+    add-moved-2
+    moved-requires
+    enum-known-n-2
+    same-length
+    returns
+    returns-2)

@@ -1,0 +1,65 @@
+-- `stack::take_reading` meets its contract. Assumes nothing.
+use mathlib.Core.Path.{_≡_, refl, sym, ap, _∙_}
+use Prim.Native.Nat.{_+_, _-_, _≤_, _<_}
+use native.Mathlib.Numerals.{add-one}
+use native.Mathlib.Omega.{arith}
+use borrow.Author.Needs.{needs}
+use borrow.Author.Tests.{lt-ltb, le-ltb}
+use denote.Ref.{now}
+use lib.IntN.{pos, negℤ, +ℤ-idl}
+use lib.ListN.{length, getD, set, length-set}
+use mir.Syntax.{w32}
+use mir.Val.{SFits}
+use mir.Facts.{toZ-ofZ}
+use Rattle.machine.specs.Endings.{bad-code}
+use Rattle.machine.specs.Numbers.{value, negation}
+use Rattle.machine.specs.Instructions.{push-int, load-stack, store-stack, jump, jump-if-false, two-sided, negate, not, read}
+use Rattle.machine.specs.Machine.{does, pushed, resulting, jumped, taken, reading, one-used}
+use Rattle.machine.specs.Coded.{live, as-two-sided, Good}
+use Rattle.machine.proofs.Signed.{back, widens, wide-negate, zero-test, false-is, false-not}
+use Rattle.machine.proofs.Cells.{length-live, live-none, live-top, live-two, peek-live, poke-live}
+use Rattle.machine.proofs.Steps.{stops, goes, puts, full, free, also, too-few, no-more, one-more}
+use Rattle.machine.proofs.stack.take_reading.Statement.{statement}
+use Rattle.machine.proofs.stack.take_reading.Tie as tie
+
+returns : tie.Need-returns
+unfolding does
+returns c = λ lent e before room g. stops g (does lent read) 6 (rw (full g (c .if1 .taken)))
+
+returns-2 : tie.Need-returns-2
+unfolding does taken reading
+returns-2 c = λ lent e before room g. stops g (does lent read) 3 (rw (free g (c .before .if1 .left), ← e, no-more (now (c .before .before .args .readings)) (c .before .before .args .s .used) (c .if2 .taken)))
+
+add-t7 : tie.Need-add-t7
+add-t7 c = search needs
+
+mul-t7 : tie.Need-mul-t7
+mul-t7 c = search needs
+
+shared-slice-copy-out-t12 : tie.Need-shared-slice-copy-out-t12
+shared-slice-copy-out-t12 c = search needs
+
+put-requires : tie.Need-put-requires
+put-requires c κs = search needs
+
+same-length : tie.Need-same-length
+same-length c = search needs
+
+returns-3 : tie.Need-returns-3
+unfolding does taken reading one-used resulting
+returns-3 c = λ lent e before room g.
+    also (c .before .put .ensures lent before room (record { deep = g .deep; stack = g .stack; within = g .within; size = g .size; past = g .past }))
+    (rw (free g (c .before .before .before .before .before .if1 .left), ← e, one-more (now (c .before .before .before .before .before .before .args .readings)) (c .before .before .before .before .before .before .args .s .used) (c .before .before .before .before .if2 .left), add-one (c .before .before .before .before .before .before .args .s .used), toZ-ofZ {w = w32} (record { sfits = c .before .before .t12 .given })))
+
+pub take-reading-spec : {M : Type 1} → statement M
+take-reading-spec =
+    tie.close
+    (tie.spec
+    returns
+    returns-2
+    add-t7
+    mul-t7
+    shared-slice-copy-out-t12
+    put-requires
+    same-length
+    returns-3)

@@ -1,0 +1,71 @@
+-- `stack::two` meets its contract. Assumes nothing.
+use mathlib.Core.Path.{_≡_, refl, sym, ap, _∙_}
+use Prim.Native.Nat.{_+_, _-_, _≤_, _<_}
+use native.Mathlib.Numerals.{add-one}
+use native.Mathlib.Omega.{arith}
+use borrow.Author.Needs.{needs}
+use borrow.Author.Tests.{lt-ltb, le-ltb}
+use denote.Ref.{now}
+use lib.IntN.{pos, negℤ, +ℤ-idl}
+use lib.ListN.{length, getD, set, length-set}
+use mir.Syntax.{w32}
+use mir.Val.{SFits}
+use mir.Facts.{toZ-ofZ}
+use Rattle.machine.specs.Endings.{bad-code}
+use Rattle.machine.specs.Numbers.{value, negation}
+use Rattle.machine.specs.Instructions.{push-int, load-stack, store-stack, jump, jump-if-false, two-sided, negate, not, read}
+use Rattle.machine.specs.Machine.{does, pushed, resulting, jumped, taken, reading, one-used}
+use Rattle.machine.specs.Coded.{live, as-two-sided, Good}
+use Rattle.machine.proofs.Signed.{back, widens, wide-negate, zero-test, false-is, false-not}
+use Rattle.machine.proofs.Cells.{length-live, live-none, live-top, live-two, peek-live, poke-live}
+use Rattle.machine.proofs.Steps.{stops, goes, puts, full, free, also, too-few, no-more, one-more}
+use Rattle.machine.proofs.stack.two.Statement.{statement}
+use Rattle.machine.proofs.stack.two.Tie as tie
+
+returns : tie.Need-returns
+returns c = λ lent before room g. stops g (does lent (two-sided (as-two-sided (c .before .args .k)))) 8 (too-few lent _ (c .before .args .s .depth) _ (now (c .before .args .stack)) _ (c .if1 .taken))
+
+mul-a : tie.Need-mul-a
+mul-a c = search needs
+
+slice-copy-out-a : tie.Need-slice-copy-out-a
+slice-copy-out-a c = search needs
+
+sub-b : tie.Need-sub-b
+sub-b c = search needs
+
+mul-b : tie.Need-mul-b
+mul-b c = search needs
+
+slice-copy-out-b : tie.Need-slice-copy-out-b
+slice-copy-out-b c = search needs
+
+calculate-two-requires : tie.Need-calculate-two-requires
+calculate-two-requires c κs = search needs
+
+put-requires : tie.Need-put-requires
+put-requires c κs = search needs
+
+same-length : tie.Need-same-length
+same-length c = search needs
+
+returns-2 : tie.Need-returns-2
+unfolding does
+returns-2 c = λ lent before room g.
+    also (c .before .put .ensures lent before room g)
+    (rw (c .before .before .calculate-two .ensures, toZ-ofZ {w = w32} (record { sfits = c .before .before .before .before .before .a .given }), toZ-ofZ {w = w32} (record { sfits = c .before .before .before .before .b .given }), live-two (c .before .before .before .before .before .before .before .args .s .depth) (now (c .before .before .before .before .before .before .before .args .stack)) (c .before .before .before .before .before .before .if1 .left)))
+
+pub two-spec : {M : Type 1} → statement M
+two-spec =
+    tie.close
+    (tie.spec
+    returns
+    mul-a
+    slice-copy-out-a
+    sub-b
+    mul-b
+    slice-copy-out-b
+    calculate-two-requires
+    put-requires
+    same-length
+    returns-2)
