@@ -37,7 +37,7 @@ bits-pos (negsuc n) f h = omega (arith, f .sfits)
 
 -- ---- tests
 
-no : true ≡ false → ⊥
+pub no : true ≡ false → ⊥
 no h = let z : _≡_ {A = ℕ} 0 1 = cc in omega arith
 
 -- the test for 0, which tells of the bits

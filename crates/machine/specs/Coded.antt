@@ -66,6 +66,11 @@ pub record Ready (s : State) (cells : List ℤ) : Type 0 where
 abbrev pub outside : State → List ℕ → Outside
 outside s room = record { used = s .used; output = take (s .printed) room }
 
+-- what the code needs of a state to print
+pub record Printing (s : State) (room : List ℕ) : Type 0 where
+  pub within : s .printed ≤ length room
+  pub next : s .place + 1 < 2 ^ 64
+
 -- a state of a run that is lent `lent`, with the stack and the room as they are, where the room was `before` when the run began
 pub record Good (lent : Lent) (before : List ℕ) (s : State) (cells : List ℤ) (room : List ℕ) : Type 0 where
   pub deep : s .depth ≤ length cells
@@ -100,3 +105,7 @@ pub record Did (lent : Lent) (before : List ℕ) (rule : Rule) (s : State) (cell
 -- whatever the room: the rule does not print
 abbrev pub Does : Lent → Rule → State → List ℤ → Move → List ℤ → Type 0
 Does lent rule s cells r cells′ = (before room : List ℕ) → Good lent before s cells room → Did lent before rule s cells room r cells′ room
+
+-- whatever the stack: the rule only prints
+abbrev pub Prints : Lent → Rule → State → List ℕ → Move → List ℕ → Type 0
+Prints lent rule s room r room′ = (before : List ℕ) (cells : List ℤ) → Good lent before s cells room → Did lent before rule s cells room r cells room′
