@@ -9,7 +9,7 @@ use lib.IntN.{ℤ}
 use lib.ListN.{length, take, drop, length-append}
 use lib.Seq.{paste, take-paste, drop-paste, length-paste, take-length, length-take-le, drop-drop}
 use borrow.Author.Tests.{le-leb, lt-leb}
-use Rattle.machine.specs.Machine.{Lent, Outside, printed, written}
+use Rattle.machine.specs.Machine.{Lent, printed, written}
 use Rattle.machine.specs.declared.state.State.{State}
 use Rattle.machine.specs.declared.state.Move.the-variants.{Go, Stop}
 use Rattle.machine.specs.Coded.{Rule, Good, Did}

@@ -1,9 +1,7 @@
 // The machine: any code table, one numbered ending.
 ghost use mathlib.Core.Path.{_≡_};
-ghost use mathlib.Core.List.{List, []};
-ghost use lib.IntN.{pos};
-ghost use lib.ListN.{length, drop, replicate};
-ghost use Prim.Native.Nat.{ℕ};
+ghost use mathlib.Core.List.{[]};
+ghost use lib.ListN.{length};
 ghost use Rattle.machine.specs.Machine.{whole-run, stack-after};
 ghost use Rattle.machine.specs.Machine as M;
 ghost use Rattle.machine.specs.Coded.{lends, Reported, Ran};

@@ -1,13 +1,12 @@
 -- `follow` meets its contract. The loop's invariant: the state is good, and the run from here with the budget left is the run from the start.
 -- The measure is the budget left. Assumes nothing.
-use mathlib.Core.Path.{_≡_, refl, sym, ap, _∙_}
+use mathlib.Core.Path.{_≡_, refl, sym, _∙_}
 use mathlib.Core.List.{[]}
 use Prim.Native.Nat.{suc, _-_, _+_, _≤_}
 use native.Mathlib.Nat.{sub-zero}
 use native.Mathlib.Omega.{arith}
 use borrow.Author.Needs.{needs}
 use denote.Ref.{now}
-use lib.ListN.{length}
 use Rattle.machine.specs.Machine as M
 use Rattle.machine.specs.Coded.{lends, live, outside, Good, Did}
 use Rattle.machine.proofs.Runs.{run-goes, run-stops, reports}

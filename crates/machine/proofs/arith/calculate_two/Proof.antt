@@ -1,9 +1,9 @@
 -- `arith::calculate_two` meets its contract, an operator at a time. Assumes nothing.
-use mathlib.Core.Path.{_≡_, refl, sym, ap, _∙_}
+use mathlib.Core.Path.{_∙_}
 use borrow.Author.Needs.{needs}
 use mir.Facts.{toZ-ofZ}
 use mir.Syntax.{w32}
-use Rattle.machine.specs.Numbers.{value, truth, calculate}
+use Rattle.machine.specs.Numbers.{calculate}
 use Rattle.machine.proofs.Signed.{back, widens, bits-pos, false-is, false-not, same-bits, wide-add, wide-sub, wide-mul, wide-quot}
 use Rattle.machine.proofs.arith.calculate_two.Statement.{statement}
 use Rattle.machine.proofs.arith.calculate_two.Tie as tie

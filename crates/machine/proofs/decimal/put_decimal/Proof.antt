@@ -1,19 +1,13 @@
 -- `decimal::put_decimal` meets its contract. Assumes nothing.
-use mathlib.Core.Path.{_≡_, refl, sym, ap, _∙_}
+use mathlib.Core.Path.{_≡_, sym, ap, _∙_}
 use mathlib.Core.List.{List, _∷_}
-use Prim.Native.Nat.{ℕ, _-_}
+use Prim.Native.Nat.{ℕ}
 use native.Mathlib.Omega.{arith}
 use borrow.Author.Needs.{needs}
-use denote.Ref.{now}
 use lib.ListN.{length}
 use lib.IntN.{natAbs}
-use mir.Syntax.{w32}
 use mir.Facts.{toZ-ofZ}
-use Rattle.machine.specs.Instructions.{print-int}
-use Rattle.machine.specs.Machine.{does}
-use Rattle.machine.proofs.Cells.{live-none, live-top}
-use Rattle.machine.proofs.Steps.{stops, also}
-use Rattle.machine.proofs.Digits.{all-digits, drop-front, decimal-below, decimal-above}
+use Rattle.machine.proofs.Digits.{drop-front, decimal-below, decimal-above}
 use Rattle.machine.proofs.decimal.put_decimal.Statement.{statement}
 use Rattle.machine.proofs.decimal.put_decimal.Tie as tie
 

@@ -1,7 +1,7 @@
 -- `print::closing_quote` meets its contract. The loop's invariant: the quote after here is the quote after the start.
 -- The measure is what is left of the text. Assumes nothing.
 use mathlib.Core.Path.{_≡_, refl, sym, _∙_}
-use Prim.Native.Nat.{_+_, _-_}
+use Prim.Native.Nat.{_-_}
 use native.Mathlib.Omega.{arith}
 use denote.Ref.{now}
 use lib.ListN.{length}

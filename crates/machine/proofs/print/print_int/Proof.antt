@@ -1,6 +1,6 @@
 -- `print::print_int` meets its contract. Assumes nothing.
-use mathlib.Core.Path.{_≡_, refl, sym, ap, _∙_}
-use Prim.Native.Nat.{ℕ, _-_}
+use mathlib.Core.Path.{_≡_}
+use Prim.Native.Nat.{_-_}
 use native.Mathlib.Omega.{arith}
 use borrow.Author.Needs.{needs}
 use denote.Ref.{now}
@@ -13,7 +13,6 @@ use Rattle.machine.specs.Instructions.{print-int}
 use Rattle.machine.specs.Machine.{does}
 use Rattle.machine.proofs.Cells.{live-none, live-top}
 use Rattle.machine.proofs.Steps.{stops, also}
-use Rattle.machine.proofs.Digits.{all-digits, drop-front, decimal-below, decimal-above}
 use Rattle.machine.proofs.print.print_int.Statement.{statement}
 use Rattle.machine.proofs.print.print_int.Tie as tie
 

@@ -1,12 +1,9 @@
 -- `print::print_str` meets its contract. Assumes nothing.
-use mathlib.Core.Path.{_≡_, refl, sym, ap, _∙_}
-use native.Mathlib.Omega.{arith}
 use borrow.Author.Needs.{needs}
 use denote.Ref.{now}
 use Rattle.machine.specs.Machine.{quoted}
 use Rattle.machine.proofs.Steps.{stops, also}
 use Rattle.machine.proofs.Strings.{no-string, the-string}
-use Rattle.machine.proofs.Prints.{no-fit, fits}
 use Rattle.machine.proofs.print.print_str.Statement.{statement}
 use Rattle.machine.proofs.print.print_str.Tie as tie
 

@@ -1,11 +1,7 @@
 -- `print::write` meets its contract. Assumes nothing.
-use mathlib.Core.Path.{_≡_, refl, sym, ap, _∙_}
 use native.Mathlib.Omega.{arith}
 use borrow.Author.Needs.{needs}
 use denote.Ref.{now}
-use Rattle.machine.specs.Machine.{quoted}
-use Rattle.machine.proofs.Steps.{stops, also}
-use Rattle.machine.proofs.Strings.{no-string, the-string}
 use Rattle.machine.proofs.Prints.{no-fit, fits}
 use Rattle.machine.proofs.print.write.Statement.{statement}
 use Rattle.machine.proofs.print.write.Tie as tie

@@ -1,5 +1,5 @@
 -- `step::step` meets its contract: what was decoded is what the rule does next. Assumes nothing.
-use mathlib.Core.Path.{_≡_, refl, sym, ap, _∙_}
+use mathlib.Core.Path.{_≡_, refl}
 use mathlib.Core.List.{List}
 use Prim.Native.Nat.{_/_}
 use borrow.Author.Needs.{needs}
