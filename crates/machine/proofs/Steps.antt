@@ -56,7 +56,7 @@ too-few lent t (suc zero) at cells o h = refl
 too-few lent t (suc (suc d)) at cells o h = absurd (omega arith)
 
 -- a reading
-pub no-more : (l : List ℤ) (i : ℕ) → length l ≤ i → getElem? l i ≡ none
+pub no-more : {A : Type 0} (l : List A) (i : ℕ) → length l ≤ i → getElem? l i ≡ none
 no-more [] i h = refl
 no-more (x ∷ l) zero h = absurd (omega arith)
 no-more (x ∷ l) (suc i) h = no-more l i (omega arith)
