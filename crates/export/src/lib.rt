@@ -1,6 +1,6 @@
 // What C and Rust call. A slice passes as a pointer and a length (include/o.h).
 ghost use Rattle.machine.specs.Machine.{whole-run};
-ghost use Rattle.machine.specs.Coded.{lends};
+ghost use Rattle.machine.specs.Promise.{lends};
 ghost use Rattle.export.specs.Reports.{RanInto};
 
 // A run of the table; the report is its ending, steps, readings used and output length.

@@ -1,5 +1,5 @@
 -- Laws of a run, at the place where the loop stands. Assumes nothing.
-use mathlib.Core.Path.{_≡_, refl, sym}
+use mathlib.Core.Path.{_≡_, refl, sym, _∙_}
 use mathlib.Core.List.{List, []}
 use Prim.Native.Nat.{ℕ, suc, _-_, _%_}
 use lib.IntN.{ℤ}
@@ -7,9 +7,11 @@ use lib.ListN.{length, take, take-append-drop}
 use lib.Seq.{length-take-le}
 use borrow.Author.Tests.{eq-eqb, ne-eqb}
 use Rattle.machine.specs.Endings.{bad-code}
-use Rattle.machine.specs.Machine.{Lent, Outside, go, stop, step, untouched, End, run, report, bad-table, whole-run, room-after}
+use Rattle.machine.specs.Machine.{Lent, Outside, go, stop, step, untouched, End, run, Report, report, bad-table, whole-run, room-after}
+use Rattle.machine.specs.declared.Report as Code
 use Rattle.machine.specs.declared.state.State.{State}
-use Rattle.machine.specs.Coded.{outside, Good, Reported}
+use Rattle.machine.specs.Coded.{outside, Good}
+use Rattle.machine.specs.Promise.{Reported, Ran}
 
 module _ (lent : Lent) (n at : ℕ) (st : List ℤ) (o : Outside) where
   pub run-goes : {at′ : ℕ} {st′ : List ℤ} {o′ : Outside} → go at′ st′ o′ ≡ step lent at st o → run lent (suc n) at st o ≡ run lent n at′ st′ o′
@@ -45,3 +47,11 @@ module _ (lent : Lent) (budget : ℕ) where
   pub even-table : length (lent .table) % 2 ≡ 0 → whole-run lent budget ≡ report budget (run lent budget 0 [] untouched)
   unfolding whole-run
   even-table h = rw (eq-eqb (length (lent .table) % 2) 0 h)
+
+-- any two results that meet the promise are the same
+pub only-one : {w : Report} {cells : List ℤ} {before : List ℕ} {r r′ : Code.Report} {st st′ : List ℤ} {after after′ : List ℕ} → Ran w cells before r st after → Ran w cells before r′ st′ after′ → (r ≡ r′) × ((st ≡ st′) × (after ≡ after′))
+only-one {r = r} {r′ = r′} p q =
+    let a = p .reported in
+    let b = q .reported in
+    let same : record { ending = r .ending; steps = r .steps; used = r .used; length = r .length } ≡ r′ = rw (a .ending ∙ sym (b .ending), a .steps ∙ sym (b .steps), a .used ∙ sym (b .used), a .size ∙ sym (b .size)) in
+    (same, (p .stack ∙ sym (q .stack), a .room ∙ sym (b .room)))

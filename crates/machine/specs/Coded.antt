@@ -5,7 +5,7 @@ use mathlib.Core.Option.{Option, none, some}
 use Prim.Native.Nat.{ℕ, zero, suc, _+_, _^_, _≤_, _<_}
 use lib.IntN.{ℤ, pos}
 use lib.ListN.{length, getD, take, drop}
-use Rattle.machine.specs.Machine.{Lent, Outside, Step, go, stop, Report, room-after, stack-after}
+use Rattle.machine.specs.Machine.{Lent, Outside, Step, go, stop}
 use Rattle.machine.specs.Numbers.{Result, value, ends, Two-sided, plus, minus, times, divide, equals, smaller, greater}
 use Rattle.machine.specs.Instructions.{Instruction, halt, push-int, load-stack, store-stack, jump, jump-if-false, two-sided, negate, not, read, print-int, print-str, print-str-ln}
 use Rattle.machine.specs.declared.arith.Calculated.{Calculated}
@@ -14,7 +14,6 @@ use Rattle.machine.specs.declared.arith.Operator.{Operator}
 use Rattle.machine.specs.declared.arith.Operator.the-variants.{Plus, Minus, Times, Divide, Equals, Smaller, Greater}
 use Rattle.machine.specs.declared.decode.Op.{Op}
 use Rattle.machine.specs.declared.decode.Op.the-variants.{Bad, Halt, PushInt, LoadStack, StoreStack, Jump, JumpIfFalse, Two, Negate, Not, Read, PrintInt, PrintStr, PrintStrLn}
-use Rattle.machine.specs.declared.Report as Code
 use Rattle.machine.specs.declared.state.State.{State}
 use Rattle.machine.specs.declared.state.Move.{Move}
 use Rattle.machine.specs.declared.state.Move.the-variants.{Go, Stop}
@@ -103,29 +102,14 @@ pub record Did (lent : Lent) (before : List ℕ) (rule : Rule) (s : State) (cell
   pub seen : as-step r cells′ room′ ≡ rule (s .place) (live (s .depth) cells) (outside s room)
   pub left : Left lent before room r cells′ room′
 
+-- from a good state, in a room that was `before` when the run began, r is what the rule says
+abbrev pub Stepped : Lent → Rule → State → List ℤ → List ℕ → Move → List ℤ → List ℕ → Type 0
+Stepped lent rule s cells room r cells′ room′ = (before : List ℕ) → Good lent before s cells room → Did lent before rule s cells room r cells′ room′
+
 -- whatever the room: the rule does not print
 abbrev pub Does : Lent → Rule → State → List ℤ → Move → List ℤ → Type 0
-Does lent rule s cells r cells′ = (before room : List ℕ) → Good lent before s cells room → Did lent before rule s cells room r cells′ room
+Does lent rule s cells r cells′ = (room : List ℕ) → Stepped lent rule s cells room r cells′ room
 
 -- whatever the stack: the rule only prints
 abbrev pub Prints : Lent → Rule → State → List ℕ → Move → List ℕ → Type 0
-Prints lent rule s room r room′ = (before : List ℕ) (cells : List ℤ) → Good lent before s cells room → Did lent before rule s cells room r cells room′
-
--- ---- the run
-
--- what is lent, by its contents
-abbrev pub lends : List ℕ → List ℤ → List ℤ → List ℤ → List ℕ → Lent
-lends text table readings stack room = record { text = text; table = table; readings = readings; cells = length stack; room = length room }
-
--- the code's report r, and the room after the run, are those of the report w
-pub record Reported (w : Report) (before : List ℕ) (r : Code.Report) (after : List ℕ) : Type 0 where
-  pub ending : r .ending ≡ w .ending
-  pub steps : r .steps ≡ w .steps
-  pub used : r .used ≡ w .used
-  pub size : r .length ≡ length (w .output)
-  pub room : after ≡ room-after (w .output) before
-
--- and the stack is all zeros
-pub record Ran (w : Report) (cells : List ℤ) (before : List ℕ) (r : Code.Report) (cells′ : List ℤ) (after : List ℕ) : Type 0 where
-  pub reported : Reported w before r after
-  pub stack : cells′ ≡ stack-after (length cells)
+Prints lent rule s room r room′ = (cells : List ℤ) → Stepped lent rule s cells room r cells room′

@@ -3,3 +3,4 @@ pub mod Numbers
 pub mod Instructions
 pub mod Machine
 pub mod Coded
+pub mod Promise

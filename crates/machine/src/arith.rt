@@ -19,7 +19,7 @@ pub enum Operator {
     Greater,
 }
 
-pub fn fit(z: i64) -> Calculated
+pub fn in_range(z: i64) -> Calculated
     ensures { λ r. ⌜ as-result r ≡ in-range z ⌝ }
 {
     if z < -2147483648 {
@@ -31,29 +31,29 @@ pub fn fit(z: i64) -> Calculated
     Calculated::Value(z as i32)
 }
 
-pub fn truth_of(t: bool) -> i32
+pub fn truth(t: bool) -> i32
     ensures { λ r. ⌜ r ≡ truth t ⌝ }
 {
     if t { 1 } else { 0 }
 }
 
-pub fn calculate_two(k: Operator, a: i32, b: i32) -> Calculated
+pub fn calculate(k: Operator, a: i32, b: i32) -> Calculated
     ensures { λ r. ⌜ as-result r ≡ calculate (as-two-sided k) a b ⌝ }
 {
     let x = a as i64;
     let y = b as i64;
     match k {
-        Operator::Plus => fit(x + y),
-        Operator::Minus => fit(x - y),
-        Operator::Times => fit(x * y),
+        Operator::Plus => in_range(x + y),
+        Operator::Minus => in_range(x - y),
+        Operator::Times => in_range(x * y),
         Operator::Divide => {
             if b == 0 {
                 return Calculated::Ends(endings::DIVISION_BY_0);
             }
-            fit(x / y)
+            in_range(x / y)
         }
-        Operator::Equals => Calculated::Value(truth_of(a == b)),
-        Operator::Smaller => Calculated::Value(truth_of(a < b)),
-        Operator::Greater => Calculated::Value(truth_of(b < a)),
+        Operator::Equals => Calculated::Value(truth(a == b)),
+        Operator::Smaller => Calculated::Value(truth(a < b)),
+        Operator::Greater => Calculated::Value(truth(b < a)),
     }
 }

@@ -26,21 +26,21 @@ pub enum Op {
 }
 
 // An unused operand is 0.
-fn unused(o: Op, n: usize) -> Op
+fn alone(o: Op, n: usize) -> Op
     ensures { λ r. ⌜ as-instruction r ≡ cond (eqb n 0) (as-instruction o) none ⌝ }
 {
     if n == 0 { o } else { Op::Bad }
 }
 
 // A Halt's operand is 0 or 1.
-fn halt_of(n: usize) -> Op
+fn halting(n: usize) -> Op
     ensures { λ r. ⌜ as-instruction r ≡ halting (pos n) ⌝ }
 {
     if n < 2 { Op::Halt(n as u8) } else { Op::Bad }
 }
 
 // Only PushInt takes an operand below zero.
-pub fn decode_pair(operation: i32, a: i32) -> Op
+pub fn decode(operation: i32, a: i32) -> Op
     ensures { λ r. ⌜ as-instruction r ≡ decode operation a ⌝ }
 {
     if a < 0 {
@@ -51,23 +51,23 @@ pub fn decode_pair(operation: i32, a: i32) -> Op
     }
     let n = a as usize;
     match operation {
-        1 => halt_of(n),
+        1 => halting(n),
         2 => Op::PushInt(a),
         3 => Op::LoadStack(n),
         4 => Op::StoreStack(n),
         5 => Op::Jump(n),
         6 => Op::JumpIfFalse(n),
-        7 => unused(Op::Two(Operator::Plus), n),
-        8 => unused(Op::Two(Operator::Minus), n),
-        9 => unused(Op::Two(Operator::Times), n),
-        10 => unused(Op::Two(Operator::Divide), n),
-        11 => unused(Op::Two(Operator::Equals), n),
-        12 => unused(Op::Two(Operator::Smaller), n),
-        13 => unused(Op::Two(Operator::Greater), n),
-        14 => unused(Op::Negate, n),
-        15 => unused(Op::Not, n),
-        16 => unused(Op::Read, n),
-        17 => unused(Op::PrintInt, n),
+        7 => alone(Op::Two(Operator::Plus), n),
+        8 => alone(Op::Two(Operator::Minus), n),
+        9 => alone(Op::Two(Operator::Times), n),
+        10 => alone(Op::Two(Operator::Divide), n),
+        11 => alone(Op::Two(Operator::Equals), n),
+        12 => alone(Op::Two(Operator::Smaller), n),
+        13 => alone(Op::Two(Operator::Greater), n),
+        14 => alone(Op::Negate, n),
+        15 => alone(Op::Not, n),
+        16 => alone(Op::Read, n),
+        17 => alone(Op::PrintInt, n),
         18 => Op::PrintStr(n),
         19 => Op::PrintStrLn(n),
         _ => Op::Bad,

@@ -4,7 +4,7 @@ ghost use mathlib.Core.List.{[]};
 ghost use lib.ListN.{length};
 ghost use Rattle.machine.specs.Machine.{whole-run, stack-after};
 ghost use Rattle.machine.specs.Machine as M;
-ghost use Rattle.machine.specs.Coded.{lends, Reported, Ran};
+ghost use Rattle.machine.specs.Promise.{lends, Reported, Ran};
 use state::Move;
 use state::State;
 

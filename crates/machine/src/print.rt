@@ -9,7 +9,7 @@ ghost use Rattle.lexeme.specs.Bytes.{no-quote};
 ghost use Rattle.lexeme.specs.Bytes as B;
 ghost use Rattle.machine.specs.Machine.{Lent, Outside, does, printed, written, quoted, string-from};
 ghost use Rattle.machine.specs.Instructions.{print-int};
-ghost use Rattle.machine.specs.Coded.{Ready, Printing, Prints, Good, Did};
+ghost use Rattle.machine.specs.Coded.{Ready, Printing, Prints, Stepped};
 use super::decimal::put_decimal;
 use super::endings;
 use super::state::Move;
@@ -75,7 +75,7 @@ pub fn print_str(s: State, text: &[u8], q: usize, more: &[u8], out: &mut [u8]) -
 
 pub fn print_int(s: State, stack: &[i32], out: &mut [u8]) -> Move
     requires { ⌜ Ready s (now stack) × Printing s (now out) ⌝ }
-    ensures { λ r. ⌜ ((lent : Lent) (before : List ℕ) → Good lent before s (now (stack .entry)) (now (out .entry)) → Did lent before (does lent print-int) s (now (stack .entry)) (now (out .entry)) r (now (stack .entry)) (now (out .exit))) ⌝ }
+    ensures { λ r. ⌜ ((lent : Lent) → Stepped lent (does lent print-int) s (now (stack .entry)) (now (out .entry)) r (now (stack .entry)) (now (out .exit))) ⌝ }
 {
     let depth = s.depth;
     if depth < 1 {

@@ -9,9 +9,9 @@ ghost use Rattle.machine.specs.Instructions.{push-int, load-stack, store
 ghost use Rattle.machine.specs.Coded.{as-result, as-two-sided, live, Ready, Does};
 use super::arith::Calculated;
 use super::arith::Operator;
-use super::arith::calculate_two;
-use super::arith::fit;
-use super::arith::truth_of;
+use super::arith::calculate;
+use super::arith::in_range;
+use super::arith::truth;
 use super::endings;
 use super::state::Move;
 use super::state::State;
@@ -31,7 +31,7 @@ fn put(s: State, stack: &mut [i32], d: usize, n: Calculated) -> Move
     }
 }
 
-pub fn push(s: State, stack: &mut [i32], v: i32) -> Move
+pub fn push_int(s: State, stack: &mut [i32], v: i32) -> Move
     requires { ⌜ Ready s (now stack) ⌝ }
     ensures { λ r. ⌜ ((lent : Lent) → Does lent (does lent (push-int v)) s (now (stack .entry)) r (now (stack .exit))) ⌝ }
 {
@@ -42,7 +42,7 @@ pub fn push(s: State, stack: &mut [i32], v: i32) -> Move
     put(s, stack, depth, Calculated::Value(v))
 }
 
-pub fn load(s: State, stack: &mut [i32], k: usize) -> Move
+pub fn load_stack(s: State, stack: &mut [i32], k: usize) -> Move
     requires { ⌜ Ready s (now stack) ⌝ }
     ensures { λ r. ⌜ ((lent : Lent) → Does lent (does lent (load-stack k)) s (now (stack .entry)) r (now (stack .exit))) ⌝ }
 {
@@ -50,10 +50,10 @@ pub fn load(s: State, stack: &mut [i32], k: usize) -> Move
         return Move::Stop(endings::BAD_CODE);
     }
     let v = stack[k];
-    push(s, stack, v)
+    push_int(s, stack, v)
 }
 
-pub fn store(s: State, stack: &mut [i32], k: usize) -> Move
+pub fn store_stack(s: State, stack: &mut [i32], k: usize) -> Move
     requires { ⌜ Ready s (now stack) ⌝ }
     ensures { λ r. ⌜ ((lent : Lent) → Does lent (does lent (store-stack k)) s (now (stack .entry)) r (now (stack .exit))) ⌝ }
 {
@@ -68,7 +68,7 @@ pub fn store(s: State, stack: &mut [i32], k: usize) -> Move
     Move::Go(moved(s, s.place + 1, depth - 1))
 }
 
-pub fn go_to(s: State, count: usize, a: usize) -> Move
+pub fn jump(s: State, count: usize, a: usize) -> Move
     ensures { λ r. ⌜ ((lent : Lent) (cells : List ℤ) → count ≡ pairs lent → Does lent (does lent (jump a)) s cells r cells) ⌝ }
 {
     if count <= a {
@@ -77,7 +77,7 @@ pub fn go_to(s: State, count: usize, a: usize) -> Move
     Move::Go(moved(s, a, s.depth))
 }
 
-pub fn go_if_false(s: State, stack: &[i32], count: usize, a: usize) -> Move
+pub fn jump_if_false(s: State, stack: &[i32], count: usize, a: usize) -> Move
     requires { ⌜ Ready s (now stack) ⌝ }
     ensures { λ r. ⌜ ((lent : Lent) → count ≡ pairs lent → Does lent (does lent (jump-if-false a)) s (now (stack .entry)) r (now (stack .entry))) ⌝ }
 {
@@ -94,7 +94,7 @@ pub fn go_if_false(s: State, stack: &[i32], count: usize, a: usize) -> Move
     Move::Go(moved(s, s.place + 1, depth - 1))
 }
 
-pub fn two(s: State, stack: &mut [i32], k: Operator) -> Move
+pub fn two_sided(s: State, stack: &mut [i32], k: Operator) -> Move
     requires { ⌜ Ready s (now stack) ⌝ }
     ensures { λ r. ⌜ ((lent : Lent) → Does lent (does lent (two-sided (as-two-sided k))) s (now (stack .entry)) r (now (stack .exit))) ⌝ }
 {
@@ -104,10 +104,10 @@ pub fn two(s: State, stack: &mut [i32], k: Operator) -> Move
     }
     let a = stack[depth - 2];
     let b = stack[depth - 1];
-    put(s, stack, depth - 2, calculate_two(k, a, b))
+    put(s, stack, depth - 2, calculate(k, a, b))
 }
 
-pub fn change_sign(s: State, stack: &mut [i32]) -> Move
+pub fn negate(s: State, stack: &mut [i32]) -> Move
     requires { ⌜ Ready s (now stack) ⌝ }
     ensures { λ r. ⌜ ((lent : Lent) → Does lent (does lent negate) s (now (stack .entry)) r (now (stack .exit))) ⌝ }
 {
@@ -116,10 +116,10 @@ pub fn change_sign(s: State, stack: &mut [i32]) -> Move
         return Move::Stop(endings::BAD_CODE);
     }
     let v = stack[depth - 1];
-    put(s, stack, depth - 1, fit(-(v as i64)))
+    put(s, stack, depth - 1, in_range(-(v as i64)))
 }
 
-pub fn change_truth(s: State, stack: &mut [i32]) -> Move
+pub fn not(s: State, stack: &mut [i32]) -> Move
     requires { ⌜ Ready s (now stack) ⌝ }
     ensures { λ r. ⌜ ((lent : Lent) → Does lent (does lent not) s (now (stack .entry)) r (now (stack .exit))) ⌝ }
 {
@@ -128,10 +128,10 @@ pub fn change_truth(s: State, stack: &mut [i32]) -> Move
         return Move::Stop(endings::BAD_CODE);
     }
     let v = stack[depth - 1];
-    put(s, stack, depth - 1, Calculated::Value(truth_of(v == 0)))
+    put(s, stack, depth - 1, Calculated::Value(truth(v == 0)))
 }
 
-pub fn take_reading(s: State, readings: &[i32], stack: &mut [i32]) -> Move
+pub fn read(s: State, readings: &[i32], stack: &mut [i32]) -> Move
     requires { ⌜ Ready s (now stack) ⌝ }
     ensures { λ r. ⌜ ((lent : Lent) → now (readings .entry) ≡ lent .readings → Does lent (does lent read) s (now (stack .entry)) r (now (stack .exit))) ⌝ }
 {

@@ -1,11 +1,11 @@
 // One instruction, from fetching it to the state after it.
-ghost use mathlib.Core.List.{List};
 ghost use lib.ListN.{length};
-ghost use Prim.Native.Nat.{ℕ, _≤_};
+ghost use Prim.Native.Nat.{_≤_};
 ghost use Rattle.machine.specs.Machine as M;
-ghost use Rattle.machine.specs.Coded.{lends, Good, Did};
+ghost use Rattle.machine.specs.Promise.{lends};
+ghost use Rattle.machine.specs.Coded.{Stepped};
 use super::decode::Op;
-use super::decode::decode_pair;
+use super::decode::decode;
 use super::endings;
 use super::print;
 use super::stack;
@@ -21,26 +21,26 @@ pub fn step(
     out: &mut [u8],
 ) -> Move
     requires { ⌜ (s .depth ≤ length (now cells)) × (s .printed ≤ length (now out)) ⌝ }
-    ensures { λ r. ⌜ ((before : List ℕ) → Good (lends (now (text .entry)) (now (table .entry)) (now (readings .entry)) (now (cells .entry)) (now (out .entry))) before s (now (cells .entry)) (now (out .entry)) → Did (lends (now (text .entry)) (now (table .entry)) (now (readings .entry)) (now (cells .entry)) (now (out .entry))) before (M.step (lends (now (text .entry)) (now (table .entry)) (now (readings .entry)) (now (cells .entry)) (now (out .entry)))) s (now (cells .entry)) (now (out .entry)) r (now (cells .exit)) (now (out .exit))) ⌝ }
+    ensures { λ r. ⌜ Stepped (lends (now (text .entry)) (now (table .entry)) (now (readings .entry)) (now (cells .entry)) (now (out .entry))) (M.step (lends (now (text .entry)) (now (table .entry)) (now (readings .entry)) (now (cells .entry)) (now (out .entry)))) s (now (cells .entry)) (now (out .entry)) r (now (cells .exit)) (now (out .exit)) ⌝ }
 {
     let place = s.place;
     let count = table.len() / 2;
     if count <= place {
         return Move::Stop(endings::BAD_CODE);
     }
-    let o = decode_pair(table[place * 2], table[place * 2 + 1]);
+    let o = decode(table[place * 2], table[place * 2 + 1]);
     match o {
         Op::Bad => Move::Stop(endings::BAD_CODE),
         Op::Halt(h) => Move::Stop(h),
-        Op::PushInt(v) => stack::push(s, cells, v),
-        Op::LoadStack(k) => stack::load(s, cells, k),
-        Op::StoreStack(k) => stack::store(s, cells, k),
-        Op::Jump(a) => stack::go_to(s, count, a),
-        Op::JumpIfFalse(a) => stack::go_if_false(s, cells, count, a),
-        Op::Two(k) => stack::two(s, cells, k),
-        Op::Negate => stack::change_sign(s, cells),
-        Op::Not => stack::change_truth(s, cells),
-        Op::Read => stack::take_reading(s, readings, cells),
+        Op::PushInt(v) => stack::push_int(s, cells, v),
+        Op::LoadStack(k) => stack::load_stack(s, cells, k),
+        Op::StoreStack(k) => stack::store_stack(s, cells, k),
+        Op::Jump(a) => stack::jump(s, count, a),
+        Op::JumpIfFalse(a) => stack::jump_if_false(s, cells, count, a),
+        Op::Two(k) => stack::two_sided(s, cells, k),
+        Op::Negate => stack::negate(s, cells),
+        Op::Not => stack::not(s, cells),
+        Op::Read => stack::read(s, readings, cells),
         Op::PrintInt => print::print_int(s, cells, out),
         Op::PrintStr(q) => print::print_str(s, text, q, b"", out),
         Op::PrintStrLn(q) => print::print_str(s, text, q, b"\n", out),

@@ -8,7 +8,8 @@ use native.Mathlib.Omega.{arith}
 use borrow.Author.Needs.{needs}
 use denote.Ref.{now}
 use Rattle.machine.specs.Machine as M
-use Rattle.machine.specs.Coded.{lends, live, outside, Good, Did}
+use Rattle.machine.specs.Coded.{live, outside, Good, Did}
+use Rattle.machine.specs.Promise.{lends}
 use Rattle.machine.proofs.Runs.{run-goes, run-stops, reports}
 use Rattle.machine.proofs.follow.Statement.{statement}
 use Rattle.machine.proofs.follow.Tie as tie

@@ -2,7 +2,7 @@
 use mathlib.Core.Path.{ap, _∙_}
 use denote.Ref.{now}
 use Rattle.machine.specs.Machine.{Lent, stack-after}
-use Rattle.machine.specs.Coded.{lends}
+use Rattle.machine.specs.Promise.{lends}
 use Rattle.machine.proofs.Runs.{odd-table, even-table}
 use borrow.Author.Needs.{needs}
 use Rattle.machine.proofs.run.Statement.{statement}

@@ -59,7 +59,7 @@ returns-2 c = λ lent before g.
     let r = c .before .before .before .before .before .before .before .before .before .put-decimal .result in
     let b = c .before .before .before .before .before .before .before .before .before .put-decimal .last .1 .0 in
     let l : length (c .before .before .before .before .before .before .before .before .before .put-decimal .last .1 .0) ≡ 11 = c .before .before .before .before .before .before .before .before .before .put-decimal .kept .1 .0 in
-    also (c .before .before .write .ensures lent before (now (c .before .before .before .before .before .before .before .before .before .before .before .before .before .before .args .stack)) (rw (c .before .before .before .before .before .before .before .moved .ensures) (record { deep = omega arith; stack = g .stack; within = g .within; size = g .size; past = g .past })))
+    also (c .before .before .write .ensures lent (now (c .before .before .before .before .before .before .before .before .before .before .before .before .before .before .args .stack)) before (rw (c .before .before .before .before .before .before .before .moved .ensures) (record { deep = omega arith; stack = g .stack; within = g .within; size = g .size; past = g .past })))
     (rw (c .before .before .before .before .before .before .before .moved .ensures, live-top (c .before .before .before .before .before .before .before .before .before .before .before .before .before .before .args .s .depth) (now (c .before .before .before .before .before .before .before .before .before .before .before .before .before .before .args .stack)) (c .before .before .before .before .before .before .before .before .before .before .before .before .if1 .left), append-nil (take (11 - r) (drop r b)), take-all (11 - r) (drop r b) (simp length-drop (omega arith)), c .before .before .before .before .before .before .before .before .before .put-decimal .ensures .1, toZ-ofZ {w = w32} (record { sfits = c .before .before .before .before .before .before .before .before .before .before .before .put-decimal-arg .given })))
 
 pub print-int-spec : {M : Type 1} → statement M

@@ -12,7 +12,7 @@ closing-quote-requires c κs = search needs
 
 returns : tie.Need-returns
 unfolding quoted
-returns c = λ lent before cells g. stops g _ 8 (rw (← no-string (now (c .before .before .before .before .before .args .text)) (c .before .before .before .before .before .args .q) (rw (c .before .closing-quote .ensures) at (c .if1 .taken))))
+returns c = λ lent cells before g. stops g _ 8 (rw (← no-string (now (c .before .before .before .before .before .args .text)) (c .before .before .before .before .before .args .q) (rw (c .before .closing-quote .ensures) at (c .if1 .taken))))
 
 sub-write : tie.Need-sub-write
 sub-write c = search needs
@@ -31,7 +31,7 @@ same-length c = search needs
 
 returns-2 : tie.Need-returns-2
 unfolding quoted
-returns-2 c = λ lent before cells g. also (c .before .before .write .ensures lent before cells g) (rw (c .before .before .before .before .before .before .closing-quote .ensures, ← the-string (now (c .before .before .before .before .before .before .before .before .before .before .args .text)) (c .before .before .before .before .before .before .before .before .before .before .args .q) (rw (c .before .before .before .before .before .before .closing-quote .ensures) at (c .before .before .before .before .before .if1 .left))))
+returns-2 c = λ lent cells before g. also (c .before .before .write .ensures lent cells before g) (rw (c .before .before .before .before .before .before .closing-quote .ensures, ← the-string (now (c .before .before .before .before .before .before .before .before .before .before .args .text)) (c .before .before .before .before .before .before .before .before .before .before .args .q) (rw (c .before .before .before .before .before .before .closing-quote .ensures) at (c .before .before .before .before .before .if1 .left))))
 
 pub print-str-spec : {M : Type 1} → statement M
 print-str-spec =

@@ -13,7 +13,7 @@ sub-if1 : tie.Need-sub-if1
 sub-if1 c = search needs
 
 returns : tie.Need-returns
-returns c = λ lent before cells g. no-fit g (now (c .before .before .before .before .args .bytes)) (now (c .before .before .before .before .args .more)) (omega (arith, c .if1 .taken))
+returns c = λ lent cells before g. no-fit g (now (c .before .before .before .before .args .bytes)) (now (c .before .before .before .before .args .more)) (omega (arith, c .if1 .taken))
 
 copy-requires : tie.Need-copy-requires
 copy-requires c κs = search needs
@@ -34,7 +34,7 @@ same-length : tie.Need-same-length
 same-length c = search needs
 
 returns-2 : tie.Need-returns-2
-returns-2 c = λ lent before cells g. rw (c .before .before .before .copy2 .ensures, c .before .before .before .before .before .before .before .copy .ensures) (fits g (now (c .before .before .before .before .before .before .before .before .before .before .before .before .before .args .bytes)) (now (c .before .before .before .before .before .before .before .before .before .before .before .before .before .args .more)) (omega (arith, c .before .before .before .before .before .before .before .before .before .if1 .left)))
+returns-2 c = λ lent cells before g. rw (c .before .before .before .copy2 .ensures, c .before .before .before .before .before .before .before .copy .ensures) (fits g (now (c .before .before .before .before .before .before .before .before .before .before .before .before .before .args .bytes)) (now (c .before .before .before .before .before .before .before .before .before .before .before .before .before .args .more)) (omega (arith, c .before .before .before .before .before .before .before .before .before .if1 .left)))
 
 pub write-spec : {M : Type 1} → statement M
 write-spec =

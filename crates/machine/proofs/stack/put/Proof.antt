@@ -34,14 +34,14 @@ same-length : tie.Need-same-length
 same-length c = search needs
 
 returns : tie.Need-returns
-returns c = λ lent before room g.
+returns c = λ lent room before g.
     let v = c .before .before .before .n .given .0 .0 in
     let f : SFits w32 (c .before .before .before .n .given .0 .0) = search needs in
     rw (c .moved .ensures, toZ-ofZ {w = w32} {z = v} f, c .before .before .before .n .given .1) (puts g (c .before .before .before .before .before .args .d) v (c .before .before .before .before .before .pre .1))
 
 returns-2 : tie.Need-returns-2
 unfolding resulting
-returns-2 c = λ lent before room g. rw (c .before .n2 .given .1) (stops g _ _ refl)
+returns-2 c = λ lent room before g. rw (c .before .n2 .given .1) (stops g _ _ refl)
 
 pub put-spec : {M : Type 1} → statement M
 put-spec =

@@ -13,7 +13,8 @@ use mir.Facts.{toZ-ofZ}
 use Rattle.machine.specs.Machine as M
 use Rattle.machine.specs.declared.decode.Op.{Op}
 use Rattle.machine.specs.declared.decode.Op.the-variants.{Bad, Halt, PushInt, LoadStack, StoreStack, Jump, JumpIfFalse, Two, Negate, Not, Read, PrintInt, PrintStr, PrintStrLn}
-use Rattle.machine.specs.Coded.{lends, as-instruction}
+use Rattle.machine.specs.Coded.{as-instruction}
+use Rattle.machine.specs.Promise.{lends}
 use Rattle.machine.proofs.Steps.{stops, also}
 use Rattle.machine.proofs.step.step.Statement.{statement}
 use Rattle.machine.proofs.step.step.Tie as tie
@@ -22,40 +23,40 @@ abbrev lent : (c : tie.Start) → M.Lent
 lent c = lends (now (c .args .text)) (now (c .args .table)) (now (c .args .readings)) (now (c .args .cells)) (now (c .args .out))
 
 -- an instruction that was decoded is what the rule does next
-rule : (c : tie.After-decode-pair) (o : Op) → c .decode-pair .result ≡ o → (st : List ℤ) (x : M.Outside) → M.decoded (lent (c .before .before .before .before .before .before)) (as-instruction o) (c .before .before .before .before .before .before .args .s .place) st x ≡ M.step (lent (c .before .before .before .before .before .before)) (c .before .before .before .before .before .before .args .s .place) st x
+rule : (c : tie.After-decode) (o : Op) → c .decode .result ≡ o → (st : List ℤ) (x : M.Outside) → M.decoded (lent (c .before .before .before .before .before .before)) (as-instruction o) (c .before .before .before .before .before .before .args .s .place) st x ≡ M.step (lent (c .before .before .before .before .before .before)) (c .before .before .before .before .before .before .args .s .place) st x
 unfolding M.step M.fetched M.pairs
 rule c o e st x =
     let a = c .before .before .before .before .before .before .args in
-    let d = rw (toZ-ofZ {w = w32} (record { sfits = c .before .before .decode-pair-arg .given }), toZ-ofZ {w = w32} (record { sfits = c .before .decode-pair-arg2 .given })) at (c .decode-pair .ensures) in
+    let d = rw (toZ-ofZ {w = w32} (record { sfits = c .before .before .decode-arg .given }), toZ-ofZ {w = w32} (record { sfits = c .before .decode-arg2 .given })) at (c .decode .ensures) in
     rw (lt-ltb (a .s .place) (length (now (a .table)) / 2) (c .before .before .before .if1 .left), ← d, e)
 
 returns : tie.Need-returns
 unfolding M.step M.fetched M.pairs M.decoded
 returns c = λ before g. stops g (M.step (lent (c .before .before .before))) 8 (rw (le-ltb (c .before .before .before .args .s .place) (length (now (c .before .before .before .args .table)) / 2) (c .if1 .taken)))
 
-mul-decode-pair : tie.Need-mul-decode-pair
-mul-decode-pair c = search needs
+mul-decode : tie.Need-mul-decode
+mul-decode c = search needs
 
-mul-decode-pair-2 : tie.Need-mul-decode-pair-2
-mul-decode-pair-2 c = search needs
+mul-decode-2 : tie.Need-mul-decode-2
+mul-decode-2 c = search needs
 
-shared-slice-copy-out-decode-pair : tie.Need-shared-slice-copy-out-decode-pair
-shared-slice-copy-out-decode-pair c = search needs
+shared-slice-copy-out-decode : tie.Need-shared-slice-copy-out-decode
+shared-slice-copy-out-decode c = search needs
 
-mul-decode-pair-3 : tie.Need-mul-decode-pair-3
-mul-decode-pair-3 c = search needs
+mul-decode-3 : tie.Need-mul-decode-3
+mul-decode-3 c = search needs
 
-add-decode-pair : tie.Need-add-decode-pair
-add-decode-pair c = search needs
+add-decode : tie.Need-add-decode
+add-decode c = search needs
 
-mul-decode-pair-4 : tie.Need-mul-decode-pair-4
-mul-decode-pair-4 c = search needs
+mul-decode-4 : tie.Need-mul-decode-4
+mul-decode-4 c = search needs
 
-shared-slice-copy-out-decode-pair-2 : tie.Need-shared-slice-copy-out-decode-pair-2
-shared-slice-copy-out-decode-pair-2 c = search needs
+shared-slice-copy-out-decode-2 : tie.Need-shared-slice-copy-out-decode-2
+shared-slice-copy-out-decode-2 c = search needs
 
-decode-pair-requires : tie.Need-decode-pair-requires
-decode-pair-requires c κs = search needs
+decode-requires : tie.Need-decode-requires
+decode-requires c κs = search needs
 
 enum-told : tie.Need-enum-told
 enum-told c = search needs
@@ -66,56 +67,56 @@ enum-known-o c = search needs
 enum-known-o-2 : tie.Need-enum-known-o-2
 enum-known-o-2 c = search needs
 
-push-requires : tie.Need-push-requires
-push-requires c κs = search needs
+push-int-requires : tie.Need-push-int-requires
+push-int-requires c κs = search needs
 
 enum-known-o-3 : tie.Need-enum-known-o-3
 enum-known-o-3 c = search needs
 
-load-requires : tie.Need-load-requires
-load-requires c κs = search needs
+load-stack-requires : tie.Need-load-stack-requires
+load-stack-requires c κs = search needs
 
 enum-known-o-4 : tie.Need-enum-known-o-4
 enum-known-o-4 c = search needs
 
-store-requires : tie.Need-store-requires
-store-requires c κs = search needs
+store-stack-requires : tie.Need-store-stack-requires
+store-stack-requires c κs = search needs
 
 enum-known-o-5 : tie.Need-enum-known-o-5
 enum-known-o-5 c = search needs
 
-go-to-requires : tie.Need-go-to-requires
-go-to-requires c κs = search needs
+jump-requires : tie.Need-jump-requires
+jump-requires c κs = search needs
 
 enum-known-o-6 : tie.Need-enum-known-o-6
 enum-known-o-6 c = search needs
 
-go-if-false-requires : tie.Need-go-if-false-requires
-go-if-false-requires c κs = search needs
+jump-if-false-requires : tie.Need-jump-if-false-requires
+jump-if-false-requires c κs = search needs
 
 enum-known-o-7 : tie.Need-enum-known-o-7
 enum-known-o-7 c = search needs
 
-two-requires : tie.Need-two-requires
-two-requires c κs = search needs
+two-sided-requires : tie.Need-two-sided-requires
+two-sided-requires c κs = search needs
 
 enum-told-2 : tie.Need-enum-told-2
 enum-told-2 c = search needs
 
-change-sign-requires : tie.Need-change-sign-requires
-change-sign-requires c κs = search needs
+negate-requires : tie.Need-negate-requires
+negate-requires c κs = search needs
 
 enum-told-3 : tie.Need-enum-told-3
 enum-told-3 c = search needs
 
-change-truth-requires : tie.Need-change-truth-requires
-change-truth-requires c κs = search needs
+not-requires : tie.Need-not-requires
+not-requires c κs = search needs
 
 enum-told-4 : tie.Need-enum-told-4
 enum-told-4 c = search needs
 
-take-reading-requires : tie.Need-take-reading-requires
-take-reading-requires c κs = search needs
+read-requires : tie.Need-read-requires
+read-requires c κs = search needs
 
 enum-told-5 : tie.Need-enum-told-5
 enum-told-5 c = search needs
@@ -156,60 +157,60 @@ returns-4 : tie.Need-returns-4
 unfolding M.decoded
 returns-4 c = λ before g.
     let f : SFits w32 (c .before .before .before .before .o2 .given .0 .0) = search needs in
-    also (rw (toZ-ofZ f) at (c .before .push .ensures (lent (c .before .before .before .before .before .before .before .before .before .before .before .before)) before (now (c .before .before .before .before .before .before .before .before .before .before .before .before .args .out)) g)) (rule (c .before .before .before .before .before .before) (PushInt _) (c .before .before .before .before .o2 .given .1) _ _)
+    also (rw (toZ-ofZ f) at (c .before .push-int .ensures (lent (c .before .before .before .before .before .before .before .before .before .before .before .before)) (now (c .before .before .before .before .before .before .before .before .before .before .before .before .args .out)) before g)) (rule (c .before .before .before .before .before .before) (PushInt _) (c .before .before .before .before .o2 .given .1) _ _)
 
 same-length-2 : tie.Need-same-length-2
 same-length-2 c = search needs
 
 returns-5 : tie.Need-returns-5
 unfolding M.decoded
-returns-5 c = λ before g. also (c .before .load .ensures (lent (c .before .before .before .before .before .before .before .before .before .before .before .before)) before (now (c .before .before .before .before .before .before .before .before .before .before .before .before .args .out)) g) (rule (c .before .before .before .before .before .before) (LoadStack _) (c .before .before .before .before .o3 .given .1) _ _)
+returns-5 c = λ before g. also (c .before .load-stack .ensures (lent (c .before .before .before .before .before .before .before .before .before .before .before .before)) (now (c .before .before .before .before .before .before .before .before .before .before .before .before .args .out)) before g) (rule (c .before .before .before .before .before .before) (LoadStack _) (c .before .before .before .before .o3 .given .1) _ _)
 
 same-length-3 : tie.Need-same-length-3
 same-length-3 c = search needs
 
 returns-6 : tie.Need-returns-6
 unfolding M.decoded
-returns-6 c = λ before g. also (c .before .store .ensures (lent (c .before .before .before .before .before .before .before .before .before .before .before .before)) before (now (c .before .before .before .before .before .before .before .before .before .before .before .before .args .out)) g) (rule (c .before .before .before .before .before .before) (StoreStack _) (c .before .before .before .before .o4 .given .1) _ _)
+returns-6 c = λ before g. also (c .before .store-stack .ensures (lent (c .before .before .before .before .before .before .before .before .before .before .before .before)) (now (c .before .before .before .before .before .before .before .before .before .before .before .before .args .out)) before g) (rule (c .before .before .before .before .before .before) (StoreStack _) (c .before .before .before .before .o4 .given .1) _ _)
 
 returns-7 : tie.Need-returns-7
 unfolding M.decoded M.pairs
-returns-7 c = λ before g. also (c .go-to .ensures (lent (c .before .before .before .before .before .before .before .before .before .before)) (now (c .before .before .before .before .before .before .before .before .before .before .args .cells)) refl before (now (c .before .before .before .before .before .before .before .before .before .before .args .out)) g) (rule (c .before .before .before .before) (Jump _) (c .before .before .o5 .given .1) _ _)
+returns-7 c = λ before g. also (c .jump .ensures (lent (c .before .before .before .before .before .before .before .before .before .before)) (now (c .before .before .before .before .before .before .before .before .before .before .args .cells)) refl (now (c .before .before .before .before .before .before .before .before .before .before .args .out)) before g) (rule (c .before .before .before .before) (Jump _) (c .before .before .o5 .given .1) _ _)
 
 same-length-4 : tie.Need-same-length-4
 same-length-4 c = search needs
 
 returns-8 : tie.Need-returns-8
 unfolding M.decoded M.pairs
-returns-8 c = λ before g. also (c .go-if-false .ensures (lent (c .before .before .before .before .before .before .before .before .before .before .before)) refl before (now (c .before .before .before .before .before .before .before .before .before .before .before .args .out)) g) (rule (c .before .before .before .before .before) (JumpIfFalse _) (c .before .before .before .o6 .given .1) _ _)
+returns-8 c = λ before g. also (c .jump-if-false .ensures (lent (c .before .before .before .before .before .before .before .before .before .before .before)) refl (now (c .before .before .before .before .before .before .before .before .before .before .before .args .out)) before g) (rule (c .before .before .before .before .before) (JumpIfFalse _) (c .before .before .before .o6 .given .1) _ _)
 
 same-length-5 : tie.Need-same-length-5
 same-length-5 c = search needs
 
 returns-9 : tie.Need-returns-9
 unfolding M.decoded
-returns-9 c = λ before g. also (c .before .two .ensures (lent (c .before .before .before .before .before .before .before .before .before .before .before .before)) before (now (c .before .before .before .before .before .before .before .before .before .before .before .before .args .out)) g) (rule (c .before .before .before .before .before .before) (Two _) (c .before .before .before .before .o7 .given .1) _ _)
+returns-9 c = λ before g. also (c .before .two-sided .ensures (lent (c .before .before .before .before .before .before .before .before .before .before .before .before)) (now (c .before .before .before .before .before .before .before .before .before .before .before .before .args .out)) before g) (rule (c .before .before .before .before .before .before) (Two _) (c .before .before .before .before .o7 .given .1) _ _)
 
 same-length-6 : tie.Need-same-length-6
 same-length-6 c = search needs
 
 returns-10 : tie.Need-returns-10
 unfolding M.decoded
-returns-10 c = λ before g. also (c .before .change-sign .ensures (lent (c .before .before .before .before .before .before .before .before .before .before .before)) before (now (c .before .before .before .before .before .before .before .before .before .before .before .args .out)) g) (rule (c .before .before .before .before .before) Negate (c .before .before .before .enum-told2 .given .1) _ _)
+returns-10 c = λ before g. also (c .before .negate .ensures (lent (c .before .before .before .before .before .before .before .before .before .before .before)) (now (c .before .before .before .before .before .before .before .before .before .before .before .args .out)) before g) (rule (c .before .before .before .before .before) Negate (c .before .before .before .enum-told2 .given .1) _ _)
 
 same-length-7 : tie.Need-same-length-7
 same-length-7 c = search needs
 
 returns-11 : tie.Need-returns-11
 unfolding M.decoded
-returns-11 c = λ before g. also (c .before .change-truth .ensures (lent (c .before .before .before .before .before .before .before .before .before .before .before)) before (now (c .before .before .before .before .before .before .before .before .before .before .before .args .out)) g) (rule (c .before .before .before .before .before) Not (c .before .before .before .enum-told3 .given .1) _ _)
+returns-11 c = λ before g. also (c .before .not .ensures (lent (c .before .before .before .before .before .before .before .before .before .before .before)) (now (c .before .before .before .before .before .before .before .before .before .before .before .args .out)) before g) (rule (c .before .before .before .before .before) Not (c .before .before .before .enum-told3 .given .1) _ _)
 
 same-length-8 : tie.Need-same-length-8
 same-length-8 c = search needs
 
 returns-12 : tie.Need-returns-12
 unfolding M.decoded
-returns-12 c = λ before g. also (c .before .take-reading .ensures (lent (c .before .before .before .before .before .before .before .before .before .before .before)) refl before (now (c .before .before .before .before .before .before .before .before .before .before .before .args .out)) g) (rule (c .before .before .before .before .before) Read (c .before .before .before .enum-told4 .given .1) _ _)
+returns-12 c = λ before g. also (c .before .read .ensures (lent (c .before .before .before .before .before .before .before .before .before .before .before)) refl (now (c .before .before .before .before .before .before .before .before .before .before .before .args .out)) before g) (rule (c .before .before .before .before .before) Read (c .before .before .before .enum-told4 .given .1) _ _)
 
 same-length-9 : tie.Need-same-length-9
 same-length-9 c = search needs
@@ -226,48 +227,48 @@ same-length-11 c = search needs
 
 returns-14 : tie.Need-returns-14
 unfolding M.decoded M.does
-returns-14 c = λ before g. also (c .before .before .print-str .ensures (lent (c .before .before .before .before .before .before .before .before .before .before .before .before .before .before)) before (now (c .before .before .before .before .before .before .before .before .before .before .before .before .before .before .args .cells)) g) (rule (c .before .before .before .before .before .before .before .before) (PrintStr _) (c .before .before .before .before .before .before .o8 .given .1) _ _)
+returns-14 c = λ before g. also (c .before .before .print-str .ensures (lent (c .before .before .before .before .before .before .before .before .before .before .before .before .before .before)) (now (c .before .before .before .before .before .before .before .before .before .before .before .before .before .before .args .cells)) before g) (rule (c .before .before .before .before .before .before .before .before) (PrintStr _) (c .before .before .before .before .before .before .o8 .given .1) _ _)
 
 same-length-12 : tie.Need-same-length-12
 same-length-12 c = search needs
 
 returns-15 : tie.Need-returns-15
 unfolding M.decoded M.does
-returns-15 c = λ before g. also (c .before .before .print-str2 .ensures (lent (c .before .before .before .before .before .before .before .before .before .before .before .before .before .before)) before (now (c .before .before .before .before .before .before .before .before .before .before .before .before .before .before .args .cells)) g) (rule (c .before .before .before .before .before .before .before .before) (PrintStrLn _) (c .before .before .before .before .before .before .o9 .given .1) _ _)
+returns-15 c = λ before g. also (c .before .before .print-str2 .ensures (lent (c .before .before .before .before .before .before .before .before .before .before .before .before .before .before)) (now (c .before .before .before .before .before .before .before .before .before .before .before .before .before .before .args .cells)) before g) (rule (c .before .before .before .before .before .before .before .before) (PrintStrLn _) (c .before .before .before .before .before .before .o9 .given .1) _ _)
 
 pub step-spec : {M : Type 1} → statement M
 step-spec =
     tie.close
     (tie.spec
     returns
-    mul-decode-pair
-    mul-decode-pair-2
-    shared-slice-copy-out-decode-pair
-    mul-decode-pair-3
-    add-decode-pair
-    mul-decode-pair-4
-    shared-slice-copy-out-decode-pair-2
-    decode-pair-requires
+    mul-decode
+    mul-decode-2
+    shared-slice-copy-out-decode
+    mul-decode-3
+    add-decode
+    mul-decode-4
+    shared-slice-copy-out-decode-2
+    decode-requires
     enum-told
     enum-known-o
     enum-known-o-2
-    push-requires
+    push-int-requires
     enum-known-o-3
-    load-requires
+    load-stack-requires
     enum-known-o-4
-    store-requires
+    store-stack-requires
     enum-known-o-5
-    go-to-requires
+    jump-requires
     enum-known-o-6
-    go-if-false-requires
+    jump-if-false-requires
     enum-known-o-7
-    two-requires
+    two-sided-requires
     enum-told-2
-    change-sign-requires
+    negate-requires
     enum-told-3
-    change-truth-requires
+    not-requires
     enum-told-4
-    take-reading-requires
+    read-requires
     enum-told-5
     print-int-requires
     enum-known-o-8

@@ -1,10 +1,10 @@
--- `arith::fit` meets its contract. Assumes nothing.
+-- `arith::in_range` meets its contract. Assumes nothing.
 use mir.Facts.{toZ-ofZ}
 use mir.Syntax.{w32}
 use mir.Val.{SFits}
 use Rattle.machine.proofs.Signed.{too-low, too-high, inside, in-range-is}
-use Rattle.machine.proofs.arith.fit.Statement.{statement}
-use Rattle.machine.proofs.arith.fit.Tie as tie
+use Rattle.machine.proofs.arith.in_range.Statement.{statement}
+use Rattle.machine.proofs.arith.in_range.Tie as tie
 
 returns : tie.Need-returns
 returns c = too-low (c .before .args .z) (rw (toZ-ofZ (c .before .fits .z)) at (c .if1 .taken))
@@ -23,5 +23,5 @@ cast-t3 c = rw (toZ-ofZ (c .before .before .fits .z)) (mid c)
 returns-3 : tie.Need-returns-3
 returns-3 c = rw (toZ-ofZ (c .before .before .fits .z), toZ-ofZ (mid c)) (in-range-is (c .before .before .args .z) (mid c))
 
-pub fit-spec : {M : Type 1} → statement M
-fit-spec = tie.close (tie.spec returns returns-2 cast-t3 returns-3)
+pub in-range-spec : {M : Type 1} → statement M
+in-range-spec = tie.close (tie.spec returns returns-2 cast-t3 returns-3)

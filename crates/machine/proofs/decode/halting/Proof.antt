@@ -1,9 +1,9 @@
--- `decode::halt_of` meets its contract. Assumes nothing.
+-- `decode::halting` meets its contract. Assumes nothing.
 use borrow.Author.Tests.{lt-ltb, le-ltb}
 use Rattle.machine.specs.Instructions.{halting}
 use borrow.Author.Needs.{needs}
-use Rattle.machine.proofs.decode.halt_of.Statement.{statement}
-use Rattle.machine.proofs.decode.halt_of.Tie as tie
+use Rattle.machine.proofs.decode.halting.Statement.{statement}
+use Rattle.machine.proofs.decode.halting.Tie as tie
 
 cast-t4 : tie.Need-cast-t4
 cast-t4 c = search needs
@@ -16,5 +16,5 @@ returns-2 : tie.Need-returns-2
 unfolding halting
 returns-2 c = rw (le-ltb (c .before .args .n) 2 (c .if1 .left))
 
-pub halt-of-spec : {M : Type 1} → statement M
-halt-of-spec = tie.close (tie.spec cast-t4 returns returns-2)
+pub halting-spec : {M : Type 1} → statement M
+halting-spec = tie.close (tie.spec cast-t4 returns returns-2)
