@@ -9,7 +9,7 @@ use denote.Ref.{now}
 use lib.IntN.{pos}
 use lib.ListN.{getD}
 use Rattle.machine.specs.Instructions.{jump-if-false}
-use Rattle.machine.specs.Machine.{does, jumped, taken}
+use Rattle.machine.specs.Machine.{does, jumped}
 use Rattle.machine.proofs.Signed.{false-is, false-not}
 use Rattle.machine.proofs.Cells.{live-none, live-top}
 use Rattle.machine.proofs.Steps.{stops, goes}

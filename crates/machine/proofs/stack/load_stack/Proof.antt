@@ -5,7 +5,7 @@ use denote.Ref.{now}
 use mir.Syntax.{w32}
 use mir.Facts.{toZ-ofZ}
 use Rattle.machine.specs.Instructions.{load-stack}
-use Rattle.machine.specs.Machine.{does, taken}
+use Rattle.machine.specs.Machine.{does}
 use Rattle.machine.proofs.Cells.{length-live, peek-live}
 use Rattle.machine.proofs.Steps.{stops, also}
 use Rattle.machine.proofs.stack.load_stack.Statement.{statement}

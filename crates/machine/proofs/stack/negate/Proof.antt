@@ -8,7 +8,7 @@ use mir.Syntax.{w32}
 use mir.Val.{SFits}
 use mir.Facts.{toZ-ofZ}
 use Rattle.machine.specs.Instructions.{negate}
-use Rattle.machine.specs.Machine.{does, taken}
+use Rattle.machine.specs.Machine.{does}
 use Rattle.machine.proofs.Signed.{back, widens, wide-negate}
 use Rattle.machine.proofs.Cells.{live-none, live-top}
 use Rattle.machine.proofs.Steps.{stops, also}

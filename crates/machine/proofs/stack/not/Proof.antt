@@ -8,7 +8,7 @@ use mir.Syntax.{w32}
 use mir.Facts.{toZ-ofZ}
 use Rattle.machine.specs.Numbers.{negation}
 use Rattle.machine.specs.Instructions.{not}
-use Rattle.machine.specs.Machine.{does, resulting, taken}
+use Rattle.machine.specs.Machine.{does, resulting}
 use Rattle.machine.proofs.Signed.{zero-test}
 use Rattle.machine.proofs.Cells.{live-none, live-top}
 use Rattle.machine.proofs.Steps.{stops, also}

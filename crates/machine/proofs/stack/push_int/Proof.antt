@@ -2,7 +2,7 @@
 use borrow.Author.Needs.{needs}
 use mir.Facts.{toZ-ofZ}
 use Rattle.machine.specs.Instructions.{push-int}
-use Rattle.machine.specs.Machine.{does, pushed, resulting, taken}
+use Rattle.machine.specs.Machine.{does, pushed, resulting}
 use Rattle.machine.proofs.Steps.{stops, full, free, also}
 use Rattle.machine.proofs.stack.push_int.Statement.{statement}
 use Rattle.machine.proofs.stack.push_int.Tie as tie

@@ -1,10 +1,13 @@
 -- `stack::two_sided` meets its contract. Assumes nothing.
 use borrow.Author.Needs.{needs}
 use denote.Ref.{now}
+use Prim.Native.Nat.{_-_}
+use lib.IntN.{pos}
+use lib.ListN.{getD}
 use mir.Syntax.{w32}
 use mir.Facts.{toZ-ofZ}
 use Rattle.machine.specs.Instructions.{two-sided}
-use Rattle.machine.specs.Machine.{does, taken}
+use Rattle.machine.specs.Machine.{does}
 use Rattle.machine.specs.Coded.{as-two-sided}
 use Rattle.machine.proofs.Cells.{live-two}
 use Rattle.machine.proofs.Steps.{stops, also, too-few}
@@ -41,8 +44,10 @@ same-length c = search needs
 returns-2 : tie.Need-returns-2
 unfolding does
 returns-2 c = λ lent room before g.
+    let cells = now (c .before .before .before .before .before .before .before .args .stack) in
+    let d = c .before .before .before .before .before .before .before .args .s .depth in
     also (c .before .put .ensures lent room before g)
-    (rw (c .before .before .calculate .ensures, toZ-ofZ {w = w32} (record { sfits = c .before .before .before .before .before .a .given }), toZ-ofZ {w = w32} (record { sfits = c .before .before .before .before .b .given }), live-two (c .before .before .before .before .before .before .before .args .s .depth) (now (c .before .before .before .before .before .before .before .args .stack)) (c .before .before .before .before .before .before .if1 .left)))
+    (rw (c .before .before .calculate .ensures, toZ-ofZ {w = w32} {z = getD cells (d - 2) (pos 0)} (record { sfits = c .before .before .before .before .before .a .given }), toZ-ofZ {w = w32} {z = getD cells (d - 1) (pos 0)} (record { sfits = c .before .before .before .before .b .given }), live-two d cells (c .before .before .before .before .before .before .if1 .left)))
 
 pub two-sided-spec : {M : Type 1} → statement M
 two-sided-spec =
