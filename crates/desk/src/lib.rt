@@ -3,7 +3,9 @@ ghost use Prim.Native.Nat.{_≤_};
 ghost use lib.ListN.{length};
 ghost use Rattle.desk.specs.Within.{Within};
 use kit::Outcome;
+use libc::{STDERR_FILENO, STDOUT_FILENO};
 use limits::Limits;
+use machine::Report;
 use readings::Reader;
 
 pub enum Loaded {
@@ -78,4 +80,22 @@ pub fn run_file(path: &[u8], fd: i32, out: &mut [u8]) -> Lesson {
     let mut stack = [0i32; 4096];
     let o = kit::run_text(&text[..length], &numbers[..count], 1000000, &mut table, &mut stack, out);
     Lesson::Came(o)
+}
+
+fn ran(r: Report, out: &[u8]) {
+    let length = r.length;
+    if length <= out.len() {
+        io::write_all(STDOUT_FILENO, &out[..length]);
+    }
+    lines::end_line(STDOUT_FILENO);
+    lines::ending(STDOUT_FILENO, r.ending, r.steps);
+}
+
+// The output, a line end, and how the run ended; or the refusal's line.
+pub fn tell(o: Outcome, out: &[u8]) {
+    match o {
+        Outcome::Ran(r) => ran(r, out),
+        Outcome::Refused(n, p) => lines::refused(STDOUT_FILENO, n, p),
+        Outcome::Needs(n) => lines::needs(STDERR_FILENO, n),
+    }
 }

@@ -1,25 +1,6 @@
 // Runs each lesson on its readings, and writes what came of it.
 use desk::Lesson;
-use kit::Outcome;
 use libc::STDOUT_FILENO;
-use machine::Report;
-
-fn ran(r: Report, out: &[u8]) {
-    let length = r.length;
-    if length <= out.len() {
-        io::write_all(STDOUT_FILENO, &out[..length]);
-    }
-    lines::end_line(STDOUT_FILENO);
-    lines::ending(STDOUT_FILENO, r.ending, r.steps);
-}
-
-fn say(o: Outcome, out: &[u8]) {
-    match o {
-        Outcome::Ran(r) => ran(r, out),
-        Outcome::Refused(n, p) => lines::refused(STDOUT_FILENO, n, p),
-        Outcome::Needs(n) => lines::needs(STDOUT_FILENO, n),
-    }
-}
 
 fn lesson(text: &[u8], readings: &[u8]) {
     io::write_all(STDOUT_FILENO, text);
@@ -28,7 +9,7 @@ fn lesson(text: &[u8], readings: &[u8]) {
     let mut out = [0u8; 4096];
     let l = desk::run_file(text, fd, &mut out);
     match l {
-        Lesson::Came(o) => say(o, &out),
+        Lesson::Came(o) => desk::tell(o, &out),
         Lesson::Unreadable => os::fail(text),
     }
     libc::close(fd);
