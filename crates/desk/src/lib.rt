@@ -3,7 +3,8 @@ ghost use Prim.Native.Nat.{_≤_};
 ghost use lib.ListN.{length};
 ghost use Rattle.desk.specs.Within.{Within};
 use kit::Outcome;
-use libc::{STDERR_FILENO, STDOUT_FILENO};
+use libc::STDERR_FILENO;
+use libc::STDOUT_FILENO;
 use limits::Limits;
 use machine::Report;
 use readings::Reader;
@@ -78,7 +79,14 @@ pub fn run_file(path: &[u8], fd: i32, out: &mut [u8]) -> Lesson {
     let count = take_readings(fd, &mut numbers);
     let mut table = [0i32; Limits::INSTRUCTIONS * 2];
     let mut stack = [0i32; 4096];
-    let o = kit::run_text(&text[..length], &numbers[..count], 1000000, &mut table, &mut stack, out);
+    let o = kit::run_text(
+        &text[..length],
+        &numbers[..count],
+        1000000,
+        &mut table,
+        &mut stack,
+        out,
+    );
     Lesson::Came(o)
 }
 

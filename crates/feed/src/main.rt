@@ -1,7 +1,9 @@
 // As station, for the feed: standard output gets the output of a run with ending 0 and nothing else; how any other ended is said on standard error.
 use desk::Lesson;
 use kit::Outcome;
-use libc::{STDERR_FILENO, STDIN_FILENO, STDOUT_FILENO};
+use libc::STDERR_FILENO;
+use libc::STDIN_FILENO;
+use libc::STDOUT_FILENO;
 use machine::Report;
 
 fn ran(r: Report, out: &[u8]) {

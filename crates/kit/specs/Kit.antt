@@ -10,7 +10,7 @@ use Rattle.lexeme.specs.Answers.{Answer, given, refused}
 use Rattle.lexeme.specs.Lexemes.{Placed, Sizes, lexemes}
 use Rattle.machine.specs.Endings.{normal}
 use Rattle.machine.specs.Machine as M
-use Rattle.machine.specs.Coded as Coded
+use Rattle.machine.specs.Promise as Promise
 use Rattle.machine.specs.declared.Report as Code
 use Rattle.meaning.specs.Layout.{program-need}
 use Rattle.meaning.specs.Meaning.{meaning}
@@ -30,7 +30,7 @@ module _ (readings : List ℤ) (budget : ℕ) (stack : List ℤ) (out : List ℕ
   pub data Comes-to : Answer Accepted → Outcome → List ℤ → List ℕ → Type 0 where
     refused-so : (n p : ℕ) → Comes-to (refused n p) (Refused n p) stack out
     stack-too-short : (a : Accepted) → length stack < need-of a → Comes-to (given a) (Needs (need-of a)) stack out
-    ran : (a : Accepted) (r : Code.Report) {stack′ : List ℤ} {out′ : List ℕ} → need-of a ≤ length stack → Coded.Ran (worked-out readings (length out) budget a) stack out r stack′ out′ → Comes-to (given a) (Ran r) stack′ out′
+    ran : (a : Accepted) (r : Code.Report) {stack′ : List ℤ} {out′ : List ℕ} → need-of a ≤ length stack → Promise.Ran (worked-out readings (length out) budget a) stack out r stack′ out′ → Comes-to (given a) (Ran r) stack′ out′
 
   -- with the code table, of n numbers, as the compiler leaves it
   pub record Says (a : Answer Accepted) (n : ℕ) (r : Outcome) (table′ : List ℤ) (stack′ : List ℤ) (out′ : List ℕ) : Type 0 where

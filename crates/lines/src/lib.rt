@@ -49,6 +49,17 @@ pub fn instruction(fd: i32, place: usize, operation: i32, operand_: i32) {
     end_line(fd);
 }
 
+// The first n instructions of a code table, a line each.
+pub fn listing(fd: i32, table: &[i32], n: usize) {
+    let mut i = 0;
+    while i < n {
+        if i < table.len() / 2 {
+            instruction(fd, i, table[i * 2], table[i * 2 + 1]);
+        }
+        i += 1;
+    }
+}
+
 // The run needs a larger stack than the program has.
 pub fn needs(fd: i32, need: usize) {
     io::write_all(fd, b"needs ");

@@ -37,12 +37,18 @@ cast-if1 : tie.Need-cast-if1 Inv-loop μ-loop
 cast-if1 c = search needs
 
 -- the value after one byte more, with all that is left, is the whole value
-on : (c : tie.After-worth Inv-loop μ-loop) → value (c .before .before .before .loop .value * 10 + c .worth .result) (drop (c .before .before .before .loop .i + 1) (now (c .before .before .before .before .before .args .word))) ≡ value 0 (now (c .before .before .before .before .before .args .word))
+on : (c : tie.After-worth Inv-loop μ-loop)
+    → let l = c .before .before .before .loop in
+    let w = now (c .before .before .before .before .before .args .word) in
+    value (l .value * 10 + c .worth .result) (drop (l .i + 1) w) ≡ value 0 w
 on c = rw (c .worth .ensures) (value-on _ _ _ (c .before .before .loop-test .taken) ∙ c .before .before .before .loop .inv .1)
 
 returns : tie.Need-returns Inv-loop μ-loop
 unfolding digit-word found coded kind-of
-returns c = rw (lt-ltb 2147483647 (value 0 (now (c .before .before .before .before .before .before .args .word))) (omega (arith, value-grows (c .before .before .before .before .loop .value * 10 + c .before .worth .result) (drop (c .before .before .before .before .loop .i + 1) (now (c .before .before .before .before .before .before .args .word))), on (c .before))))
+returns c =
+    let v = c .before .before .before .before .loop .value * 10 + c .before .worth .result in
+    let w = now (c .before .before .before .before .before .before .args .word) in
+    rw (lt-ltb 2147483647 (value 0 w) (omega (arith, value-grows v (drop (c .before .before .before .before .loop .i + 1) w), on (c .before))))
 
 add-i : tie.Need-add-i Inv-loop μ-loop
 add-i c = omega arith
@@ -58,7 +64,9 @@ cast-t12 c = omega arith
 
 returns-2 : tie.Need-returns-2 Inv-loop μ-loop
 unfolding digit-word found coded kind-of
-returns-2 c = let e : value 0 (now (c .before .before .before .args .word)) ≡ c .before .loop .value = sym (c .before .loop .inv .1) ∙ value-out _ _ _ (c .loop-test .left) in rw (e, le-ltb 2147483647 _ (c .before .loop .inv .0), ← c .before .before .before .pre)
+returns-2 c =
+    let e : value 0 (now (c .before .before .before .args .word)) ≡ c .before .loop .value = sym (c .before .loop .inv .1) ∙ value-out _ _ _ (c .loop-test .left) in
+    rw (e, le-ltb 2147483647 _ (c .before .loop .inv .0), ← c .before .before .before .pre)
 
 pub digit-word-spec : {M : Type 1} → statement M
 digit-word-spec =

@@ -28,7 +28,11 @@ shared-slice-read-if2-2 : tie.Need-shared-slice-read-if2-2 Inv-loop μ-loop
 shared-slice-read-if2-2 c = omega arith
 
 returns-2 : tie.Need-returns-2 Inv-loop μ-loop
-returns-2 c = same-stop (now (c .before .before .before .before .before .before .args .a)) (now (c .before .before .before .before .before .before .args .b)) (c .before .before .before .before .loop .i) (omega arith) (omega arith) (c .if2 .taken) ∙ c .before .before .before .before .loop .inv .1
+returns-2 c =
+    let a = now (c .before .before .before .before .before .before .args .a) in
+    let b = now (c .before .before .before .before .before .before .args .b) in
+    let l = c .before .before .before .before .loop in
+    same-stop a b (l .i) (omega arith) (omega arith) (c .if2 .taken) ∙ l .inv .1
 
 add-i : tie.Need-add-i Inv-loop μ-loop
 add-i c = omega arith
@@ -37,7 +41,11 @@ loop-less : tie.Need-loop-less Inv-loop μ-loop
 loop-less c = omega arith
 
 loop-again : tie.Need-loop-again Inv-loop μ-loop
-loop-again c = (omega arith, same-on (now (c .before .before .before .before .before .before .args .a)) (now (c .before .before .before .before .before .before .args .b)) (c .before .before .before .before .loop .i) (omega arith) (omega arith) (c .if2 .left) ∙ c .before .before .before .before .loop .inv .1)
+loop-again c =
+    let a = now (c .before .before .before .before .before .before .args .a) in
+    let b = now (c .before .before .before .before .before .before .args .b) in
+    let l = c .before .before .before .before .loop in
+    (omega arith, same-on a b (l .i) (omega arith) (omega arith) (c .if2 .left) ∙ l .inv .1)
 
 returns-3 : tie.Need-returns-3 Inv-loop μ-loop
 returns-3 c = same-out (now (c .before .before .before .args .a)) (now (c .before .before .before .args .b)) (c .before .loop .i) (omega arith) (omega arith) ∙ c .before .loop .inv .1

@@ -1,4 +1,6 @@
 -- `lexeme::next` meets its contract. Assumes nothing.
+use Prim.Native.Nat.{ℕ}
+use mathlib.Core.List.{List}
 use mathlib.Core.Path.{_≡_, sym, ap, _∙_}
 use native.Mathlib.Omega.{arith}
 use borrow.Author.Tests.{ne-eqb}
@@ -37,17 +39,31 @@ part-word-at-start c = search needs
 
 part-word-at-end : tie.Need-part-word-at-end
 unfolding such
-part-word-at-end c = omega (arith, c .run-end2 .ensures, run-fits letter-or-digit (drop (c .before .before .before .before .before .run-end .result) (now (c .before .before .before .before .before .before .before .args .text))), length-drop (c .before .before .before .before .before .run-end .result) (now (c .before .before .before .before .before .before .before .args .text)))
+part-word-at-end c =
+    let text = now (c .before .before .before .before .before .before .before .args .text) in
+    let p = c .before .before .before .before .before .run-end .result in
+    omega (arith, c .run-end2 .ensures, run-fits letter-or-digit (drop p text), length-drop p text)
 
 word-at-requires : tie.Need-word-at-requires
 word-at-requires c κs = search needs
 
 returns-2 : tie.Need-returns-2
 unfolding next such
-returns-2 c = rw (← c .before .before .before .before .before .before .before .run-end .ensures, here-word _ (now (c .before .before .before .before .before .before .before .before .before .args .text)) (c .before .before .before .before .before .before .before .run-end .result) (omega arith) (sym (c .before .before .before .before .is-such .ensures) ∙ c .before .before .before .if2 .taken), ← run-part letter-or-digit (now (c .before .before .before .before .before .before .before .before .before .args .text)) (c .before .before .before .before .before .before .before .run-end .result) _ (c .before .before .run-end2 .ensures)) (c .word-at .ensures)
+returns-2 c =
+    let text = now (c .before .before .before .before .before .before .before .before .before .args .text) in
+    let p = c .before .before .before .before .before .before .before .run-end .result in
+    rw (← c .before .before .before .before .before .before .before .run-end .ensures, here-word _ text p (omega arith) (sym (c .before .before .before .before .is-such .ensures) ∙ c .before .before .before .if2 .taken), ← run-part letter-or-digit text p _ (c .before .before .run-end2 .ensures))
+    (c .word-at .ensures)
+
+-- the text, and the place after the separators
+abbrev text-of : tie.Else2 → List ℕ
+text-of c = now (c .before .before .before .before .before .before .args .text)
+
+abbrev place-of : tie.Else2 → ℕ
+place-of c = c .before .before .before .before .run-end .result
 
 -- at a byte that is no letter and no digit
-at-other : (c : tie.Else2) (most : Sizes) → next most (now (c .before .before .before .before .before .before .args .text)) (c .before .before .before .before .before .before .args .at) ≡ other most (now (c .before .before .before .before .before .before .args .text)) (c .before .before .before .before .run-end .result) (getD (now (c .before .before .before .before .before .before .args .text)) (c .before .before .before .before .run-end .result) 0)
+at-other : (c : tie.Else2) (most : Sizes) → next most (text-of c) (c .before .before .before .before .before .before .args .at) ≡ other most (text-of c) (place-of c) (getD (text-of c) (place-of c) 0)
 unfolding next such
 at-other c most = rw (← c .before .before .before .before .run-end .ensures) (here-other most _ _ (omega arith) (sym (c .before .is-such .ensures) ∙ c .if2 .left))
 

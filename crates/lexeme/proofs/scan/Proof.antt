@@ -34,10 +34,14 @@ returns : tie.Need-returns Inv-loop μ-loop
 returns c = scan-stop most (now (c .before .before .before .before .args .text)) (c .before .before .loop .at) _ (c .before .next .ensures) (c .match .keys2) ∙ c .before .before .loop .inv
 
 loop-less : tie.Need-loop-less Inv-loop μ-loop
-loop-less c = let s = found-stands most (now (c .before .before .before .before .before .before .args .text)) (c .before .before .before .before .loop .at) _ (sym (c .before .found .given .1) ∙ c .before .before .before .next .ensures) in omega arith
+loop-less c =
+    let s = found-stands most (now (c .before .before .before .before .before .before .args .text)) (c .before .before .before .before .loop .at) _ (sym (c .before .found .given .1) ∙ c .before .before .before .next .ensures) in
+    omega arith
 
 loop-again : tie.Need-loop-again Inv-loop μ-loop
-loop-again c = scan-on most (now (c .before .before .before .before .before .before .args .text)) (c .before .before .before .before .loop .at) _ (sym (c .before .found .given .1) ∙ c .before .before .before .next .ensures) ∙ c .before .before .before .before .loop .inv
+loop-again c =
+    let is = sym (c .before .found .given .1) ∙ c .before .before .before .next .ensures in
+    scan-on most (now (c .before .before .before .before .before .before .args .text)) (c .before .before .before .before .loop .at) _ is ∙ c .before .before .before .before .loop .inv
 
 pub scan-spec : {M : Type 1} → statement M
 scan-spec =

@@ -34,7 +34,9 @@ say-lexeme-requires : tie.Need-say-lexeme-requires Inv-loop μ-loop
 say-lexeme-requires c κs = search needs
 
 loop-less : tie.Need-loop-less Inv-loop μ-loop
-loop-less c = let s = found-stands _ (now (c .before .before .before .before .before .before .before .args .text)) (c .before .before .before .before .before .loop .at) _ (sym (c .before .before .found .given .1) ∙ c .before .before .before .before .next .ensures) in omega arith
+loop-less c =
+    let s = found-stands _ (now (c .before .before .before .before .before .before .before .args .text)) (c .before .before .before .before .before .loop .at) _ (sym (c .before .before .found .given .1) ∙ c .before .before .before .before .next .ensures) in
+    omega arith
 
 loop-again : tie.Need-loop-again Inv-loop μ-loop
 loop-again c = search needs

@@ -1,0 +1,57 @@
+-- Laws of a run, at the place where the loop stands. Assumes nothing.
+use mathlib.Core.Path.{_≡_, refl, sym, _∙_}
+use mathlib.Core.List.{List, []}
+use Prim.Native.Nat.{ℕ, suc, _-_, _%_}
+use lib.IntN.{ℤ}
+use lib.ListN.{length, take, take-append-drop}
+use lib.Seq.{length-take-le}
+use borrow.Author.Tests.{eq-eqb, ne-eqb}
+use Rattle.machine.specs.Endings.{bad-code}
+use Rattle.machine.specs.Machine.{Lent, Outside, go, stop, step, untouched, End, run, Report, report, bad-table, whole-run, room-after}
+use Rattle.machine.specs.declared.Report as Code
+use Rattle.machine.specs.declared.state.State.{State}
+use Rattle.machine.specs.Coded.{outside, Good}
+use Rattle.machine.specs.Promise.{Reported, Ran}
+
+module _ (lent : Lent) (n at : ℕ) (st : List ℤ) (o : Outside) where
+  pub run-goes : {at′ : ℕ} {st′ : List ℤ} {o′ : Outside} → go at′ st′ o′ ≡ step lent at st o → run lent (suc n) at st o ≡ run lent n at′ st′ o′
+  unfolding run
+  run-goes e = rw (← e, run)
+
+  pub run-stops : {e : ℕ} → stop e ≡ step lent at st o → run lent (suc n) at st o ≡ record { ending = e; left = n; outside = o }
+  unfolding run
+  run-stops e = rw (← e, run)
+
+-- the room is what was printed, and past it what it was
+pub room-is : {lent : Lent} {before : List ℕ} {s : State} {cells : List ℤ} {room : List ℕ} → Good lent before s cells room → room ≡ room-after (take (s .printed) room) before
+unfolding room-after
+room-is {s = s} {room = room} g = rw (length-take-le (s .printed) room (g .within), ← g .past) (sym (take-append-drop (s .printed) room))
+
+-- where the run ended, so is it reported
+pub reports : {lent : Lent} {before : List ℕ} {s : State} {cells : List ℤ} {room : List ℕ} → Good lent before s cells room → (budget e left steps : ℕ) (w : End) → record { ending = e; left = left; outside = outside s room } ≡ w → steps ≡ budget - left → Reported (report budget w) before (record { ending = e; steps = steps; used = s .used; length = s .printed }) room
+unfolding report
+reports {s = s} {room = room} g budget e left steps w p q = rw (← p) (record {
+  ending = refl;
+  steps = q;
+  used = refl;
+  size = sym (length-take-le (s .printed) room (g .within));
+  room = room-is g;
+})
+
+-- a table of odd length, and one of even length
+module _ (lent : Lent) (budget : ℕ) where
+  pub odd-table : (before : List ℕ) → (length (lent .table) % 2 ≡ 0 → ⊥) → Reported (whole-run lent budget) before (record { ending = bad-code; steps = 0; used = 0; length = 0 }) before
+  unfolding whole-run bad-table room-after
+  odd-table before h = rw (ne-eqb (length (lent .table) % 2) 0 h) (record { ending = refl; steps = refl; used = refl; size = refl; room = refl })
+
+  pub even-table : length (lent .table) % 2 ≡ 0 → whole-run lent budget ≡ report budget (run lent budget 0 [] untouched)
+  unfolding whole-run
+  even-table h = rw (eq-eqb (length (lent .table) % 2) 0 h)
+
+-- any two results that meet the promise are the same
+pub only-one : {w : Report} {cells : List ℤ} {before : List ℕ} {r r′ : Code.Report} {st st′ : List ℤ} {after after′ : List ℕ} → Ran w cells before r st after → Ran w cells before r′ st′ after′ → (r ≡ r′) × ((st ≡ st′) × (after ≡ after′))
+only-one {r = r} {r′ = r′} p q =
+    let a = p .reported in
+    let b = q .reported in
+    let same : record { ending = r .ending; steps = r .steps; used = r .used; length = r .length } ≡ r′ = rw (a .ending ∙ sym (b .ending), a .steps ∙ sym (b .steps), a .used ∙ sym (b .used), a .size ∙ sym (b .size)) in
+    (same, (p .stack ∙ sym (q .stack), a .room ∙ sym (b .room)))

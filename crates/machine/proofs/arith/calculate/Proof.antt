@@ -1,0 +1,134 @@
+-- `arith::calculate` meets its contract, an operator at a time. Assumes nothing.
+use mathlib.Core.Path.{_∙_}
+use borrow.Author.Needs.{needs}
+use mir.Facts.{toZ-ofZ}
+use mir.Syntax.{w32}
+use Rattle.machine.specs.Numbers.{calculate}
+use Rattle.machine.proofs.Signed.{back, widens, bits-pos, false-is, false-not, same-bits, wide-add, wide-sub, wide-mul, wide-quot}
+use Rattle.machine.proofs.arith.calculate.Statement.{statement}
+use Rattle.machine.proofs.arith.calculate.Tie as tie
+
+cast-x : tie.Need-cast-x
+cast-x c = widens (c .fits .a)
+
+cast-y : tie.Need-cast-y
+cast-y c = widens (c .fits .b)
+
+enum-told : tie.Need-enum-told
+enum-told c = search needs
+
+add-in-range : tie.Need-add-in-range
+add-in-range c = rw (back (c .before .before .fits .a), back (c .before .before .fits .b)) (wide-add (c .before .before .fits .a) (c .before .before .fits .b))
+
+in-range-requires : tie.Need-in-range-requires
+in-range-requires c κs = search needs
+
+enum-told-2 : tie.Need-enum-told-2
+enum-told-2 c = search needs
+
+sub-in-range : tie.Need-sub-in-range
+sub-in-range c = rw (back (c .before .before .fits .a), back (c .before .before .fits .b)) (wide-sub (c .before .before .fits .a) (c .before .before .fits .b))
+
+in-range-requires-2 : tie.Need-in-range-requires-2
+in-range-requires-2 c κs = search needs
+
+enum-told-3 : tie.Need-enum-told-3
+enum-told-3 c = search needs
+
+mul-in-range : tie.Need-mul-in-range
+mul-in-range c = rw (back (c .before .before .fits .a), back (c .before .before .fits .b)) (wide-mul (c .before .before .fits .a) (c .before .before .fits .b))
+
+in-range-requires-3 : tie.Need-in-range-requires-3
+in-range-requires-3 c κs = search needs
+
+enum-told-4 : tie.Need-enum-told-4
+enum-told-4 c = search needs
+
+returns : tie.Need-returns
+unfolding calculate
+returns c = rw (c .before .enum-told4 .given .1, false-is (c .before .before .before .args .b) (c .before .before .before .fits .b) (c .if1 .taken))
+
+div-in-range : tie.Need-div-in-range
+div-in-range c = (rw (toZ-ofZ (c .before .before .before .fits .b)) (bits-pos (c .before .before .before .args .b) (c .before .before .before .fits .b) (c .if1 .left)), rw (back (c .before .before .before .fits .a), back (c .before .before .before .fits .b)) (wide-quot (c .before .before .before .fits .a) (c .before .before .before .fits .b)))
+
+in-range-requires-4 : tie.Need-in-range-requires-4
+in-range-requires-4 c κs = search needs
+
+enum-told-5 : tie.Need-enum-told-5
+enum-told-5 c = search needs
+
+truth-requires : tie.Need-truth-requires
+truth-requires c κs = search needs
+
+enum-told-6 : tie.Need-enum-told-6
+enum-told-6 c = search needs
+
+truth-requires-2 : tie.Need-truth-requires-2
+truth-requires-2 c κs = search needs
+
+enum-told-7 : tie.Need-enum-told-7
+enum-told-7 c = search needs
+
+truth-requires-3 : tie.Need-truth-requires-3
+truth-requires-3 c κs = search needs
+
+returns-2 : tie.Need-returns-2
+unfolding calculate
+returns-2 c = rw (c .before .enum-told .given .1) (c .in-range .ensures ∙ rw (back (c .before .before .before .fits .a), back (c .before .before .before .fits .b), toZ-ofZ (wide-add (c .before .before .before .fits .a) (c .before .before .before .fits .b))))
+
+returns-3 : tie.Need-returns-3
+unfolding calculate
+returns-3 c = rw (c .before .enum-told2 .given .1) (c .in-range2 .ensures ∙ rw (back (c .before .before .before .fits .a), back (c .before .before .before .fits .b), toZ-ofZ (wide-sub (c .before .before .before .fits .a) (c .before .before .before .fits .b))))
+
+returns-4 : tie.Need-returns-4
+unfolding calculate
+returns-4 c = rw (c .before .enum-told3 .given .1) (c .in-range3 .ensures ∙ rw (back (c .before .before .before .fits .a), back (c .before .before .before .fits .b), toZ-ofZ (wide-mul (c .before .before .before .fits .a) (c .before .before .before .fits .b))))
+
+returns-5 : tie.Need-returns-5
+unfolding calculate
+returns-5 c = rw (c .before .before .enum-told4 .given .1, false-not (c .before .before .before .before .args .b) (c .before .before .before .before .fits .b) (c .before .if1 .left)) (c .in-range4 .ensures ∙ rw (back (c .before .before .before .before .fits .a), back (c .before .before .before .before .fits .b), toZ-ofZ (wide-quot (c .before .before .before .before .fits .a) (c .before .before .before .before .fits .b))))
+
+returns-6 : tie.Need-returns-6
+unfolding calculate
+returns-6 c = rw (c .before .enum-told5 .given .1, toZ-ofZ {w = w32} (record { sfits = c .truth .ok }), c .truth .ensures, same-bits (c .before .before .before .args .a) (c .before .before .before .args .b) (c .before .before .before .fits .a) (c .before .before .before .fits .b))
+
+returns-7 : tie.Need-returns-7
+unfolding calculate
+returns-7 c = rw (c .before .enum-told6 .given .1, toZ-ofZ {w = w32} (record { sfits = c .truth2 .ok }), c .truth2 .ensures, toZ-ofZ (c .before .before .before .fits .a), toZ-ofZ (c .before .before .before .fits .b))
+
+returns-8 : tie.Need-returns-8
+unfolding calculate
+returns-8 c = rw (c .before .enum-told7 .given .1, toZ-ofZ {w = w32} (record { sfits = c .truth3 .ok }), c .truth3 .ensures, toZ-ofZ (c .before .before .before .fits .a), toZ-ofZ (c .before .before .before .fits .b))
+
+pub calculate-spec : {M : Type 1} → statement M
+calculate-spec =
+    tie.close
+    (tie.spec
+    cast-x
+    cast-y
+    enum-told
+    add-in-range
+    in-range-requires
+    enum-told-2
+    sub-in-range
+    in-range-requires-2
+    enum-told-3
+    mul-in-range
+    in-range-requires-3
+    enum-told-4
+    returns
+    div-in-range
+    in-range-requires-4
+    enum-told-5
+    truth-requires
+    enum-told-6
+    truth-requires-2
+    enum-told-7
+    truth-requires-3
+    returns-2
+    returns-3
+    returns-4
+    returns-5
+    returns-6
+    returns-7
+    returns-8)

@@ -1,0 +1,81 @@
+-- `print::print_int` meets its contract. Assumes nothing.
+use mathlib.Core.Path.{_≡_}
+use Prim.Native.Nat.{_-_}
+use native.Mathlib.Omega.{arith}
+use borrow.Author.Needs.{needs}
+use denote.Ref.{now}
+use mathlib.Core.List.{append-nil}
+use lib.ListN.{length, take, drop, length-drop}
+use lib.Seq.{take-all}
+use mir.Syntax.{w32}
+use mir.Facts.{toZ-ofZ}
+use Rattle.machine.specs.Instructions.{print-int}
+use Rattle.machine.specs.Machine.{does}
+use Rattle.machine.proofs.Cells.{live-none, live-top}
+use Rattle.machine.proofs.Steps.{stops, also}
+use Rattle.machine.proofs.print.print_int.Statement.{statement}
+use Rattle.machine.proofs.print.print_int.Tie as tie
+
+returns : tie.Need-returns
+unfolding does
+returns c = λ lent before g. stops g (does lent print-int) 8 (rw (live-none (c .before .before .args .s .depth) (now (c .before .before .args .stack)) (c .if1 .taken)))
+
+mul-put-decimal : tie.Need-mul-put-decimal
+mul-put-decimal c = search needs
+
+shared-slice-copy-out-put-decimal : tie.Need-shared-slice-copy-out-put-decimal
+shared-slice-copy-out-put-decimal c = search needs
+
+slice-aggregate-put-decimal : tie.Need-slice-aggregate-put-decimal
+slice-aggregate-put-decimal c = search needs
+
+put-decimal-requires : tie.Need-put-decimal-requires
+put-decimal-requires c κs = search needs
+
+moved-requires : tie.Need-moved-requires
+moved-requires c κs = search needs
+
+sub-write : tie.Need-sub-write
+sub-write c = search needs
+
+part-write-start : tie.Need-part-write-start
+part-write-start c = search needs
+
+part-write-end : tie.Need-part-write-end
+part-write-end c = search needs
+
+slice-aggregate-write : tie.Need-slice-aggregate-write
+slice-aggregate-write c = search needs
+
+write-requires : tie.Need-write-requires
+write-requires c κs = rw (c .before .before .before .before .moved .ensures) (record { within = c .before .before .before .before .before .before .before .before .before .before .before .pre .1 .within; next = c .before .before .before .before .before .before .before .before .before .before .before .pre .1 .next })
+
+same-length : tie.Need-same-length
+same-length c = search needs
+
+returns-2 : tie.Need-returns-2
+unfolding does
+returns-2 c = λ lent before g.
+    let r = c .before .before .before .before .before .before .before .before .before .put-decimal .result in
+    let b = c .before .before .before .before .before .before .before .before .before .put-decimal .last .1 .0 in
+    let l : length (c .before .before .before .before .before .before .before .before .before .put-decimal .last .1 .0) ≡ 11 = c .before .before .before .before .before .before .before .before .before .put-decimal .kept .1 .0 in
+    also (c .before .before .write .ensures lent (now (c .before .before .before .before .before .before .before .before .before .before .before .before .before .before .args .stack)) before (rw (c .before .before .before .before .before .before .before .moved .ensures) (record { deep = omega arith; stack = g .stack; within = g .within; size = g .size; past = g .past })))
+    (rw (c .before .before .before .before .before .before .before .moved .ensures, live-top (c .before .before .before .before .before .before .before .before .before .before .before .before .before .before .args .s .depth) (now (c .before .before .before .before .before .before .before .before .before .before .before .before .before .before .args .stack)) (c .before .before .before .before .before .before .before .before .before .before .before .before .if1 .left), append-nil (take (11 - r) (drop r b)), take-all (11 - r) (drop r b) (simp length-drop (omega arith)), c .before .before .before .before .before .before .before .before .before .put-decimal .ensures .1, toZ-ofZ {w = w32} (record { sfits = c .before .before .before .before .before .before .before .before .before .before .before .put-decimal-arg .given })))
+
+pub print-int-spec : {M : Type 1} → statement M
+print-int-spec =
+    tie.close
+    (tie.spec
+    returns
+    mul-put-decimal
+    shared-slice-copy-out-put-decimal
+    slice-aggregate-put-decimal
+    put-decimal-requires
+    moved-requires
+    sub-write
+    part-write-start
+    part-write-end
+    slice-aggregate-write
+    write-requires
+    same-length
+    returns-2)

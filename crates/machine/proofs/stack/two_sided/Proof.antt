@@ -1,0 +1,60 @@
+-- `stack::two_sided` meets its contract. Assumes nothing.
+use borrow.Author.Needs.{needs}
+use denote.Ref.{now}
+use mir.Syntax.{w32}
+use mir.Facts.{toZ-ofZ}
+use Rattle.machine.specs.Instructions.{two-sided}
+use Rattle.machine.specs.Machine.{does, taken}
+use Rattle.machine.specs.Coded.{as-two-sided}
+use Rattle.machine.proofs.Cells.{live-two}
+use Rattle.machine.proofs.Steps.{stops, also, too-few}
+use Rattle.machine.proofs.stack.two_sided.Statement.{statement}
+use Rattle.machine.proofs.stack.two_sided.Tie as tie
+
+returns : tie.Need-returns
+returns c = λ lent room before g. stops g (does lent (two-sided (as-two-sided (c .before .args .k)))) 8 (too-few lent _ (c .before .args .s .depth) _ (now (c .before .args .stack)) _ (c .if1 .taken))
+
+mul-a : tie.Need-mul-a
+mul-a c = search needs
+
+slice-copy-out-a : tie.Need-slice-copy-out-a
+slice-copy-out-a c = search needs
+
+sub-b : tie.Need-sub-b
+sub-b c = search needs
+
+mul-b : tie.Need-mul-b
+mul-b c = search needs
+
+slice-copy-out-b : tie.Need-slice-copy-out-b
+slice-copy-out-b c = search needs
+
+calculate-requires : tie.Need-calculate-requires
+calculate-requires c κs = search needs
+
+put-requires : tie.Need-put-requires
+put-requires c κs = search needs
+
+same-length : tie.Need-same-length
+same-length c = search needs
+
+returns-2 : tie.Need-returns-2
+unfolding does
+returns-2 c = λ lent room before g.
+    also (c .before .put .ensures lent room before g)
+    (rw (c .before .before .calculate .ensures, toZ-ofZ {w = w32} (record { sfits = c .before .before .before .before .before .a .given }), toZ-ofZ {w = w32} (record { sfits = c .before .before .before .before .b .given }), live-two (c .before .before .before .before .before .before .before .args .s .depth) (now (c .before .before .before .before .before .before .before .args .stack)) (c .before .before .before .before .before .before .if1 .left)))
+
+pub two-sided-spec : {M : Type 1} → statement M
+two-sided-spec =
+    tie.close
+    (tie.spec
+    returns
+    mul-a
+    slice-copy-out-a
+    sub-b
+    mul-b
+    slice-copy-out-b
+    calculate-requires
+    put-requires
+    same-length
+    returns-2)

@@ -1,0 +1,59 @@
+// Signed 32-bit numbers: computed at 64 bits, where nothing is lost, and brought back by one test of the range.
+ghost use mathlib.Core.Path.{_≡_};
+ghost use Rattle.machine.specs.Numbers.{in-range, calculate, truth};
+ghost use Rattle.machine.specs.Coded.{as-result, as-two-sided};
+use super::endings;
+
+pub enum Calculated {
+    Value(i32),
+    Ends(u8),
+}
+
+pub enum Operator {
+    Plus,
+    Minus,
+    Times,
+    Divide,
+    Equals,
+    Smaller,
+    Greater,
+}
+
+pub fn in_range(z: i64) -> Calculated
+    ensures { λ r. ⌜ as-result r ≡ in-range z ⌝ }
+{
+    if z < -2147483648 {
+        return Calculated::Ends(endings::OUTSIDE_RANGE);
+    }
+    if 2147483647 < z {
+        return Calculated::Ends(endings::OUTSIDE_RANGE);
+    }
+    Calculated::Value(z as i32)
+}
+
+pub fn truth(t: bool) -> i32
+    ensures { λ r. ⌜ r ≡ truth t ⌝ }
+{
+    if t { 1 } else { 0 }
+}
+
+pub fn calculate(k: Operator, a: i32, b: i32) -> Calculated
+    ensures { λ r. ⌜ as-result r ≡ calculate (as-two-sided k) a b ⌝ }
+{
+    let x = a as i64;
+    let y = b as i64;
+    match k {
+        Operator::Plus => in_range(x + y),
+        Operator::Minus => in_range(x - y),
+        Operator::Times => in_range(x * y),
+        Operator::Divide => {
+            if b == 0 {
+                return Calculated::Ends(endings::DIVISION_BY_0);
+            }
+            in_range(x / y)
+        }
+        Operator::Equals => Calculated::Value(truth(a == b)),
+        Operator::Smaller => Calculated::Value(truth(a < b)),
+        Operator::Greater => Calculated::Value(truth(b < a)),
+    }
+}

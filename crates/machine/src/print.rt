@@ -1,0 +1,88 @@
+// The instructions that print. A print that does not fit the room prints nothing.
+ghost use mathlib.Core.Path.{_≡_};
+ghost use mathlib.Core.List.{List, _++_};
+ghost use lib.IntN.{ℤ};
+ghost use lib.ListN.{length, drop};
+ghost use lib.Seq.{paste};
+ghost use Prim.Native.Nat.{ℕ, _+_, _≤_};
+ghost use Rattle.lexeme.specs.Bytes.{no-quote};
+ghost use Rattle.lexeme.specs.Bytes as B;
+ghost use Rattle.machine.specs.Machine.{Lent, Outside, does, printed, written, quoted, string-from};
+ghost use Rattle.machine.specs.Instructions.{print-int};
+ghost use Rattle.machine.specs.Coded.{Ready, Printing, Prints, Stepped};
+use super::decimal::put_decimal;
+use super::endings;
+use super::state::Move;
+use super::state::State;
+use super::state::moved;
+
+// Bytes at a place with room for them.
+fn copy(out: &mut [u8], at: usize, bytes: &[u8])
+    requires { ⌜ at + length (now bytes) ≤ length (now out) ⌝ }
+    ensures { λ r. ⌜ now (out .exit) ≡ paste (now (out .entry)) at (now (bytes .entry)) (length (now (bytes .entry))) ⌝ }
+{
+    let mut i = 0;
+    while i < bytes.len() {
+        out[at + i] = bytes[i];
+        i += 1;
+    }
+}
+
+// Bytes and what follows them, both or neither.
+fn write(s: State, bytes: &[u8], more: &[u8], out: &mut [u8]) -> Move
+    requires { ⌜ Printing s (now out) ⌝ }
+    ensures { λ r. ⌜ ((lent : Lent) → Prints lent (λ (at : ℕ) (st : List ℤ) (o : Outside). written lent at st (printed (lent .room) (now (bytes .entry) ++ now (more .entry)) o)) s (now (out .entry)) r (now (out .exit))) ⌝ }
+{
+    let at = s.printed;
+    let n = bytes.len() + more.len();
+    if out.len() - at < n {
+        return Move::Stop(endings::PRINT_DOES_NOT_FIT);
+    }
+    copy(out, at, bytes);
+    copy(out, at + bytes.len(), more);
+    Move::Go(State {
+        place: s.place + 1,
+        depth: s.depth,
+        used: s.used,
+        printed: at + n,
+    })
+}
+
+// The place of the next quote, or the end where there is none.
+fn closing_quote(text: &[u8], from: usize) -> usize
+    ensures { λ r. ⌜ r ≡ from + length (B.run no-quote (drop from (now (text .entry)))) ⌝ }
+{
+    let mut i = from;
+    while i < text.len() {
+        if text[i] == 34 {
+            return i;
+        }
+        i += 1;
+    }
+    i
+}
+
+pub fn print_str(s: State, text: &[u8], q: usize, more: &[u8], out: &mut [u8]) -> Move
+    requires { ⌜ Printing s (now out) ⌝ }
+    ensures { λ r. ⌜ ((lent : Lent) → Prints lent (λ (at : ℕ) (st : List ℤ) (o : Outside). quoted lent at (now (more .entry)) st o (string-from (now (text .entry)) q)) s (now (out .entry)) r (now (out .exit))) ⌝ }
+{
+    let end = closing_quote(text, q);
+    if text.len() <= end {
+        return Move::Stop(endings::BAD_CODE);
+    }
+    write(s, &text[q..end], more, out)
+}
+
+pub fn print_int(s: State, stack: &[i32], out: &mut [u8]) -> Move
+    requires { ⌜ Ready s (now stack) × Printing s (now out) ⌝ }
+    ensures { λ r. ⌜ ((lent : Lent) → Stepped lent (does lent print-int) s (now (stack .entry)) (now (out .entry)) r (now (stack .entry)) (now (out .exit))) ⌝ }
+{
+    let depth = s.depth;
+    if depth < 1 {
+        return Move::Stop(endings::BAD_CODE);
+    }
+    let mut buffer = [0u8; 11];
+    let from = put_decimal(stack[depth - 1], &mut buffer);
+    let t = moved(s, s.place, depth - 1);
+    write(t, &buffer[from..], b"", out)
+}

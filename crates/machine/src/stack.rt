@@ -1,0 +1,153 @@
+// The instructions that print nothing, a function for each group. Each tests for bad code, then for stack room, then for its own ending.
+ghost use mathlib.Core.Path.{_≡_};
+ghost use mathlib.Core.List.{List};
+ghost use lib.IntN.{ℤ};
+ghost use lib.ListN.{length};
+ghost use Prim.Native.Nat.{ℕ, _<_};
+ghost use Rattle.machine.specs.Machine.{Lent, Outside, does, resulting, pairs};
+ghost use Rattle.machine.specs.Instructions.{push-int, load-stack, store-stack, jump, jump-if-false, two-sided, negate, not, read};
+ghost use Rattle.machine.specs.Coded.{as-result, as-two-sided, live, Ready, Does};
+use super::arith::Calculated;
+use super::arith::Operator;
+use super::arith::calculate;
+use super::arith::in_range;
+use super::arith::truth;
+use super::endings;
+use super::state::Move;
+use super::state::State;
+use super::state::moved;
+
+// What a calculation gives, on the d lowest cells.
+fn put(s: State, stack: &mut [i32], d: usize, n: Calculated) -> Move
+    requires { ⌜ Ready s (now stack) × (d < length (now stack)) ⌝ }
+    ensures { λ r. ⌜ ((lent : Lent) → Does lent (λ (at : ℕ) (st : List ℤ) (o : Outside). resulting lent at (as-result n) (live d (now (stack .entry))) o) s (now (stack .entry)) r (now (stack .exit))) ⌝ }
+{
+    match n {
+        Calculated::Value(v) => {
+            stack[d] = v;
+            Move::Go(moved(s, s.place + 1, d + 1))
+        }
+        Calculated::Ends(e) => Move::Stop(e),
+    }
+}
+
+pub fn push_int(s: State, stack: &mut [i32], v: i32) -> Move
+    requires { ⌜ Ready s (now stack) ⌝ }
+    ensures { λ r. ⌜ ((lent : Lent) → Does lent (does lent (push-int v)) s (now (stack .entry)) r (now (stack .exit))) ⌝ }
+{
+    let depth = s.depth;
+    if stack.len() <= depth {
+        return Move::Stop(endings::STACK_FULL);
+    }
+    put(s, stack, depth, Calculated::Value(v))
+}
+
+pub fn load_stack(s: State, stack: &mut [i32], k: usize) -> Move
+    requires { ⌜ Ready s (now stack) ⌝ }
+    ensures { λ r. ⌜ ((lent : Lent) → Does lent (does lent (load-stack k)) s (now (stack .entry)) r (now (stack .exit))) ⌝ }
+{
+    if s.depth <= k {
+        return Move::Stop(endings::BAD_CODE);
+    }
+    let v = stack[k];
+    push_int(s, stack, v)
+}
+
+pub fn store_stack(s: State, stack: &mut [i32], k: usize) -> Move
+    requires { ⌜ Ready s (now stack) ⌝ }
+    ensures { λ r. ⌜ ((lent : Lent) → Does lent (does lent (store-stack k)) s (now (stack .entry)) r (now (stack .exit))) ⌝ }
+{
+    let depth = s.depth;
+    if depth < 1 {
+        return Move::Stop(endings::BAD_CODE);
+    }
+    if depth - 1 <= k {
+        return Move::Stop(endings::BAD_CODE);
+    }
+    stack[k] = stack[depth - 1];
+    Move::Go(moved(s, s.place + 1, depth - 1))
+}
+
+pub fn jump(s: State, count: usize, a: usize) -> Move
+    ensures { λ r. ⌜ ((lent : Lent) (cells : List ℤ) → count ≡ pairs lent → Does lent (does lent (jump a)) s cells r cells) ⌝ }
+{
+    if count <= a {
+        return Move::Stop(endings::BAD_CODE);
+    }
+    Move::Go(moved(s, a, s.depth))
+}
+
+pub fn jump_if_false(s: State, stack: &[i32], count: usize, a: usize) -> Move
+    requires { ⌜ Ready s (now stack) ⌝ }
+    ensures { λ r. ⌜ ((lent : Lent) → count ≡ pairs lent → Does lent (does lent (jump-if-false a)) s (now (stack .entry)) r (now (stack .entry))) ⌝ }
+{
+    let depth = s.depth;
+    if depth < 1 {
+        return Move::Stop(endings::BAD_CODE);
+    }
+    if count <= a {
+        return Move::Stop(endings::BAD_CODE);
+    }
+    if stack[depth - 1] == 0 {
+        return Move::Go(moved(s, a, depth - 1));
+    }
+    Move::Go(moved(s, s.place + 1, depth - 1))
+}
+
+pub fn two_sided(s: State, stack: &mut [i32], k: Operator) -> Move
+    requires { ⌜ Ready s (now stack) ⌝ }
+    ensures { λ r. ⌜ ((lent : Lent) → Does lent (does lent (two-sided (as-two-sided k))) s (now (stack .entry)) r (now (stack .exit))) ⌝ }
+{
+    let depth = s.depth;
+    if depth < 2 {
+        return Move::Stop(endings::BAD_CODE);
+    }
+    let a = stack[depth - 2];
+    let b = stack[depth - 1];
+    put(s, stack, depth - 2, calculate(k, a, b))
+}
+
+pub fn negate(s: State, stack: &mut [i32]) -> Move
+    requires { ⌜ Ready s (now stack) ⌝ }
+    ensures { λ r. ⌜ ((lent : Lent) → Does lent (does lent negate) s (now (stack .entry)) r (now (stack .exit))) ⌝ }
+{
+    let depth = s.depth;
+    if depth < 1 {
+        return Move::Stop(endings::BAD_CODE);
+    }
+    let v = stack[depth - 1];
+    put(s, stack, depth - 1, in_range(-(v as i64)))
+}
+
+pub fn not(s: State, stack: &mut [i32]) -> Move
+    requires { ⌜ Ready s (now stack) ⌝ }
+    ensures { λ r. ⌜ ((lent : Lent) → Does lent (does lent not) s (now (stack .entry)) r (now (stack .exit))) ⌝ }
+{
+    let depth = s.depth;
+    if depth < 1 {
+        return Move::Stop(endings::BAD_CODE);
+    }
+    let v = stack[depth - 1];
+    put(s, stack, depth - 1, Calculated::Value(truth(v == 0)))
+}
+
+pub fn read(s: State, readings: &[i32], stack: &mut [i32]) -> Move
+    requires { ⌜ Ready s (now stack) ⌝ }
+    ensures { λ r. ⌜ ((lent : Lent) → now (readings .entry) ≡ lent .readings → Does lent (does lent read) s (now (stack .entry)) r (now (stack .exit))) ⌝ }
+{
+    let depth = s.depth;
+    let used = s.used;
+    if stack.len() <= depth {
+        return Move::Stop(endings::STACK_FULL);
+    }
+    if readings.len() <= used {
+        return Move::Stop(endings::NO_READING_LEFT);
+    }
+    let t = State {
+        place: s.place,
+        depth,
+        used: used + 1,
+        printed: s.printed,
+    };
+    put(t, stack, depth, Calculated::Value(readings[used]))
+}

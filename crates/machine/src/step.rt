@@ -1,0 +1,48 @@
+// One instruction, from fetching it to the state after it.
+ghost use lib.ListN.{length};
+ghost use Prim.Native.Nat.{_≤_};
+ghost use Rattle.machine.specs.Machine as M;
+ghost use Rattle.machine.specs.Promise.{lends};
+ghost use Rattle.machine.specs.Coded.{Stepped};
+use super::decode::Op;
+use super::decode::decode;
+use super::endings;
+use super::print;
+use super::stack;
+use super::state::Move;
+use super::state::State;
+
+pub fn step(
+    s: State,
+    text: &[u8],
+    table: &[i32],
+    readings: &[i32],
+    cells: &mut [i32],
+    out: &mut [u8],
+) -> Move
+    requires { ⌜ (s .depth ≤ length (now cells)) × (s .printed ≤ length (now out)) ⌝ }
+    ensures { λ r. ⌜ Stepped (lends (now (text .entry)) (now (table .entry)) (now (readings .entry)) (now (cells .entry)) (now (out .entry))) (M.step (lends (now (text .entry)) (now (table .entry)) (now (readings .entry)) (now (cells .entry)) (now (out .entry)))) s (now (cells .entry)) (now (out .entry)) r (now (cells .exit)) (now (out .exit)) ⌝ }
+{
+    let place = s.place;
+    let count = table.len() / 2;
+    if count <= place {
+        return Move::Stop(endings::BAD_CODE);
+    }
+    let o = decode(table[place * 2], table[place * 2 + 1]);
+    match o {
+        Op::Bad => Move::Stop(endings::BAD_CODE),
+        Op::Halt(h) => Move::Stop(h),
+        Op::PushInt(v) => stack::push_int(s, cells, v),
+        Op::LoadStack(k) => stack::load_stack(s, cells, k),
+        Op::StoreStack(k) => stack::store_stack(s, cells, k),
+        Op::Jump(a) => stack::jump(s, count, a),
+        Op::JumpIfFalse(a) => stack::jump_if_false(s, cells, count, a),
+        Op::Two(k) => stack::two_sided(s, cells, k),
+        Op::Negate => stack::negate(s, cells),
+        Op::Not => stack::not(s, cells),
+        Op::Read => stack::read(s, readings, cells),
+        Op::PrintInt => print::print_int(s, cells, out),
+        Op::PrintStr(q) => print::print_str(s, text, q, b"", out),
+        Op::PrintStrLn(q) => print::print_str(s, text, q, b"\n", out),
+    }
+}

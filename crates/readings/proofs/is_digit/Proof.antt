@@ -1,0 +1,16 @@
+-- `readings::is_digit` meets its contract. Assumes nothing.
+use borrow.Author.Tests.{le-leb, lt-leb}
+use Rattle.lexeme.specs.Bytes.{digit}
+use Rattle.readings.proofs.is_digit.Statement.{statement}
+use Rattle.readings.proofs.is_digit.Tie as tie
+
+returns : tie.Need-returns
+unfolding digit
+returns c = rw (le-leb 48 (c .before .args .b) (c .if1 .taken))
+
+returns-2 : tie.Need-returns-2
+unfolding digit
+returns-2 c = rw (lt-leb 48 (c .before .args .b) (c .if1 .left))
+
+pub is-digit-spec : {M : Type 1} → statement M
+is-digit-spec = tie.close (tie.spec returns returns-2)

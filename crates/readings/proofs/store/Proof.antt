@@ -1,0 +1,57 @@
+-- `readings::store` meets its contract. Assumes nothing.
+use mathlib.Core.Path.{sym, _∙_}
+use borrow.Author.Tests.{lt-ltb, le-ltb, not-true, not-false}
+use denote.Ref.{now}
+use lib.ListN.{length}
+use mir.Syntax.{w32}
+use mir.Val.{SFits}
+use mir.Facts.{toZ-ofZ}
+use Rattle.readings.specs.Steps.{stored}
+use Rattle.readings.specs.Readings.{number}
+use borrow.Author.Needs.{needs}
+use Rattle.readings.proofs.store.Statement.{statement}
+use Rattle.readings.proofs.store.Tie as tie
+
+is-in-range-requires : tie.Need-is-in-range-requires
+is-in-range-requires c κs = search needs
+
+returns : tie.Need-returns
+unfolding stored number
+returns c = rw (sym (c .before .is-in-range .ensures) ∙ not-true _ (c .if1 .taken))
+
+returns-2 : tie.Need-returns-2
+unfolding stored number
+returns-2 c = rw (sym (c .before .before .is-in-range .ensures) ∙ not-false _ (c .before .if1 .left), le-ltb (c .before .before .before .args .count) (length (now (c .before .before .before .args .readings))) (c .if2 .taken))
+
+signed-requires : tie.Need-signed-requires
+signed-requires c κs = sym (c .before .before .is-in-range .ensures) ∙ not-false _ (c .before .if1 .left)
+
+mul-t8 : tie.Need-mul-t8
+mul-t8 c = search needs
+
+slice-set-from-readings : tie.Need-slice-set-from-readings
+slice-set-from-readings c = search needs
+
+add-t8 : tie.Need-add-t8
+add-t8 c = search needs
+
+same-length : tie.Need-same-length
+same-length c = search needs
+
+returns-3 : tie.Need-returns-3
+unfolding stored number
+returns-3 c = let f : SFits w32 (c .signed .result) = search needs in rw (toZ-ofZ f, c .signed .ensures, sym (c .before .before .before .is-in-range .ensures) ∙ not-false _ (c .before .before .if1 .left), lt-ltb (c .before .before .before .before .args .count) (length (now (c .before .before .before .before .args .readings))) (c .before .if2 .left))
+
+pub store-spec : {M : Type 1} → statement M
+store-spec =
+    tie.close
+    (tie.spec
+    is-in-range-requires
+    returns
+    returns-2
+    signed-requires
+    mul-t8
+    slice-set-from-readings
+    add-t8
+    same-length
+    returns-3)

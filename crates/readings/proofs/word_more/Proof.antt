@@ -1,0 +1,64 @@
+-- `readings::word_more` meets its contract. Assumes nothing.
+use borrow.Author.Tests.{eq-eqb, ne-eqb}
+use Rattle.readings.specs.Steps.{word-more}
+use borrow.Author.Needs.{needs}
+use Rattle.readings.proofs.word_more.Statement.{statement}
+use Rattle.readings.proofs.word_more.Tie as tie
+
+enum-told : tie.Need-enum-told
+enum-told c = search needs
+
+returns : tie.Need-returns
+unfolding word-more
+returns c = rw (c .before .enum-told .given .1, eq-eqb (c .before .before .before .args .b) 45 (c .if1 .taken))
+
+digit-more-requires : tie.Need-digit-more-requires
+digit-more-requires c κs = search needs
+
+enum-told-2 : tie.Need-enum-told-2
+enum-told-2 c = search needs
+
+digit-more-requires-2 : tie.Need-digit-more-requires-2
+digit-more-requires-2 c κs = search needs
+
+enum-known-phase : tie.Need-enum-known-phase
+enum-known-phase c = search needs
+
+digit-more-requires-3 : tie.Need-digit-more-requires-3
+digit-more-requires-3 c κs = search needs
+
+enum-told-3 : tie.Need-enum-told-3
+enum-told-3 c = search needs
+
+returns-2 : tie.Need-returns-2
+unfolding word-more
+returns-2 c = rw (c .before .before .enum-told .given .1, ne-eqb (c .before .before .before .before .args .b) 45 (c .before .if1 .left)) (c .digit-more .ensures)
+
+returns-3 : tie.Need-returns-3
+unfolding word-more
+returns-3 c = rw (c .before .enum-told2 .given .1) (c .digit-more2 .ensures)
+
+returns-4 : tie.Need-returns-4
+unfolding word-more
+returns-4 c = rw (c .before .before .phase .given .1) (c .digit-more3 .ensures)
+
+returns-5 : tie.Need-returns-5
+unfolding word-more
+returns-5 c = rw (c .enum-told3 .given .1)
+
+pub word-more-spec : {M : Type 1} → statement M
+word-more-spec =
+    tie.close
+    (tie.spec
+    enum-told
+    returns
+    digit-more-requires
+    enum-told-2
+    digit-more-requires-2
+    enum-known-phase
+    digit-more-requires-3
+    enum-told-3
+    returns-2
+    returns-3
+    returns-4
+    returns-5)

@@ -1,0 +1,167 @@
+// The readings of an input that comes in chunks of any length.
+ghost use mathlib.Core.Path.{_≡_};
+ghost use mathlib.Core.Bool.{true};
+ghost use Rattle.lexeme.specs.Bytes.{separator, digit};
+ghost use Rattle.readings.specs.Readings.{in-range, signed, number};
+ghost use Rattle.readings.specs.Steps.{digit-more, word-more, stored, ended, step, steps, start, finished};
+
+// What the bytes since the last separator are: none, a minus alone, a number with its sign and magnitude; or the readings are over.
+pub enum Phase {
+    Between,
+    Minus,
+    Number(bool, u32),
+    Over,
+}
+
+// Where the input stands, and how many readings are stored.
+pub struct Reader {
+    pub phase: Phase,
+    pub count: usize,
+}
+
+fn is_separator(b: u8) -> bool
+    ensures { λ r. ⌜ r ≡ separator b ⌝ }
+{
+    match b {
+        b' ' | 9 | 10 | 13 => true,
+        _ => false,
+    }
+}
+
+fn is_digit(b: u8) -> bool
+    ensures { λ r. ⌜ r ≡ digit b ⌝ }
+{
+    b'0' <= b && b <= b'9'
+}
+
+fn is_in_range(negative: bool, n: u64) -> bool
+    ensures { λ r. ⌜ r ≡ in-range negative n ⌝ }
+{
+    if negative {
+        return n <= 2147483648;
+    }
+    n <= 2147483647
+}
+
+fn signed(negative: bool, n: u64) -> i32
+    requires { ⌜ in-range negative n ≡ true ⌝ }
+    ensures { λ r. ⌜ r ≡ signed negative n ⌝ }
+{
+    if negative {
+        return (-(n as i64)) as i32;
+    }
+    n as i32
+}
+
+fn digit_more(negative: bool, n: u32, b: u8) -> Phase
+    ensures { λ r. ⌜ r ≡ digit-more negative n b ⌝ }
+{
+    if !is_digit(b) {
+        return Phase::Over;
+    }
+    let m = n as u64 * 10 + (b - 48) as u64;
+    if !is_in_range(negative, m) {
+        return Phase::Over;
+    }
+    Phase::Number(negative, m as u32)
+}
+
+fn word_more(phase: Phase, b: u8) -> Phase
+    ensures { λ r. ⌜ r ≡ word-more phase b ⌝ }
+{
+    match phase {
+        Phase::Between => {
+            if b == b'-' {
+                return Phase::Minus;
+            }
+            digit_more(false, 0, b)
+        }
+        Phase::Minus => digit_more(true, 0, b),
+        Phase::Number(negative, n) => digit_more(negative, n, b),
+        Phase::Over => Phase::Over,
+    }
+}
+
+// A number is stored if it is in range and there is room; else the readings are over.
+fn store(negative: bool, n: u64, count: usize, readings: &mut [i32]) -> Reader
+    ensures { λ r. ⌜ record { reader = r; numbers = now (readings .exit) } ≡ stored (number negative n) count (now (readings .entry)) ⌝ }
+{
+    if !is_in_range(negative, n) {
+        return Reader {
+            phase: Phase::Over,
+            count,
+        };
+    }
+    if readings.len() <= count {
+        return Reader {
+            phase: Phase::Over,
+            count,
+        };
+    }
+    readings[count] = signed(negative, n);
+    Reader {
+        phase: Phase::Between,
+        count: count + 1,
+    }
+}
+
+// A word ends, by a separator or by the end of the input.
+fn end_word(r: Reader, readings: &mut [i32]) -> Reader
+    ensures { λ e. ⌜ record { reader = e; numbers = now (readings .exit) } ≡ ended (record { reader = r; numbers = now (readings .entry) }) ⌝ }
+{
+    let phase = r.phase;
+    match phase {
+        Phase::Between => r,
+        Phase::Minus => Reader {
+            phase: Phase::Over,
+            count: r.count,
+        },
+        Phase::Number(negative, n) => store(negative, n as u64, r.count, readings),
+        Phase::Over => r,
+    }
+}
+
+fn take_byte(r: Reader, b: u8, readings: &mut [i32]) -> Reader
+    ensures { λ e. ⌜ record { reader = e; numbers = now (readings .exit) } ≡ step (record { reader = r; numbers = now (readings .entry) }) b ⌝ }
+{
+    if is_separator(b) {
+        return end_word(r, readings);
+    }
+    let phase = r.phase;
+    let word = word_more(phase, b);
+    Reader {
+        phase: word,
+        count: r.count,
+    }
+}
+
+// Before the first byte.
+pub fn start() -> Reader
+    ensures { λ r. ⌜ r ≡ start ⌝ }
+{
+    Reader {
+        phase: Phase::Between,
+        count: 0,
+    }
+}
+
+// After the next chunk of the input.
+pub fn more(r: Reader, bytes: &[u8], readings: &mut [i32]) -> Reader
+    ensures { λ e. ⌜ record { reader = e; numbers = now (readings .exit) } ≡ steps (record { reader = r; numbers = now (readings .entry) }) (now (bytes .entry)) ⌝ }
+{
+    let mut reader = r;
+    let mut i = 0;
+    while i < bytes.len() {
+        reader = take_byte(reader, bytes[i], readings);
+        i += 1;
+    }
+    reader
+}
+
+// After the last chunk: how many readings there are.
+pub fn finish(r: Reader, readings: &mut [i32]) -> usize
+    ensures { λ n. ⌜ record { count = n; numbers = now (readings .exit) } ≡ finished (record { reader = r; numbers = now (readings .entry) }) ⌝ }
+{
+    let last = end_word(r, readings);
+    last.count
+}

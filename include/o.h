@@ -1,0 +1,33 @@
+/* The machine of the language O, for C. The functions are proved; `rt staticlib export` writes the archive that has them. */
+#ifndef O_H
+#define O_H
+
+#include <stddef.h>
+#include <stdint.h>
+
+#ifdef __cplusplus
+extern "C" {
+#endif
+
+/*
+ * A run of a code table over a text and readings, within a budget of steps.
+ *
+ * Each array passes as a pointer and its number of elements. A pointer is not null, also where the number is 0, and is
+ * valid for that many elements. `stack`, `out` and `report` are written: none of them may overlap anything else lent.
+ *
+ * Afterwards report[0] is the ending, 0 to 8; report[1] the steps; report[2] the readings used; report[3] the output's
+ * length. The whole stack is 0, and the bytes of `out` past the output are as they were.
+ */
+void o_run(const uint8_t *text, size_t text_length,
+           const int32_t *table, size_t table_length,
+           const int32_t *readings, size_t readings_length,
+           uint32_t budget,
+           int32_t *stack, size_t stack_length,
+           uint8_t *out, size_t out_length,
+           uint64_t report[4]);
+
+#ifdef __cplusplus
+}
+#endif
+
+#endif
