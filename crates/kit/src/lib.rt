@@ -1,0 +1,51 @@
+// What users call: a text compiled and run, and what may be sent on to the feed.
+ghost use mathlib.Core.Path.{_≡_};
+ghost use lib.ListN.{length};
+ghost use Rattle.kit.specs.Kit.{By-bytes, By-sentences, sendable};
+use compiler::Answer;
+use limits::Limits;
+use machine::Report;
+
+pub enum Outcome {
+    // It ran: ending, steps, readings used and output length.
+    Ran(Report),
+    // It was refused: number and place.
+    Refused(u8, usize),
+    // It needs so large a stack, and the lent one is shorter.
+    Needs(usize),
+}
+
+// Compiles a text and runs its code. The table is the compiler's and is left with the code; nothing of it shows in what comes of the text.
+pub fn run_text(
+    text: &[u8],
+    readings: &[i32],
+    budget: u32,
+    table: &mut [i32],
+    stack: &mut [i32],
+    out: &mut [u8],
+) -> Outcome
+    ensures bytes { λ r. do ⌜ By-bytes (← ⟦Limits::TEXT⟧ .entry) (record { word = (← ⟦Limits::WORD⟧ .entry); string = (← ⟦Limits::STRING⟧ .entry); literal = (← ⟦Limits::LITERAL⟧ .entry) }) (now (text .entry)) (now (readings .entry)) budget (length (now (table .entry))) (now (stack .entry)) (now (out .entry)) r (now (table .exit)) (now (stack .exit)) (now (out .exit)) ⌝ }
+    ensures sentences { λ r. do ⌜ By-sentences (← ⟦Limits::NESTING⟧ .entry) (← ⟦Limits::DECLARATIONS⟧ .entry) (← ⟦Limits::INSTRUCTIONS⟧ .entry) (now (text .entry)) (now (readings .entry)) budget (length (now (table .entry))) (now (stack .entry)) (now (out .entry)) r (now (table .exit)) (now (stack .exit)) (now (out .exit)) ⌝ }
+{
+    let a = compiler::compile(text, table);
+    match a {
+        Answer::Refused(n, p) => Outcome::Refused(n, p),
+        Answer::Accepted(n, _, need) => {
+            if stack.len() < need {
+                return Outcome::Needs(need);
+            }
+            let end = n * 2;
+            Outcome::Ran(machine::run(text, &table[..end], readings, budget, stack, out))
+        }
+    }
+}
+
+// What may be sent on to the feed: the output of a run with ending 0, and of no other.
+pub fn to_send(ending: u8, length: usize, out: &[u8]) -> &[u8]
+    ensures { λ r. ⌜ now r ≡ sendable ending length (now (out .entry)) ⌝ }
+{
+    if ending != 0 || out.len() < length {
+        return &out[0..0];
+    }
+    &out[..length]
+}
