@@ -14,3 +14,4 @@ pub mod Reading
 pub mod Refusals
 pub mod Sizes
 pub mod Stores
+pub mod Unique
