@@ -21,9 +21,9 @@ use Rattle.compiler.specs.Answers.{reported, Says, Decided, By-bytes, By
 use Rattle.compiler.specs.Compiled as C
 use Rattle.compiler.specs.Compiled.{Report, report, short-enough, code-of-text, fitting, lexed, laid-out, compiled}
 use Rattle.compiler.specs.Walks.{named}
-use Rattle.compiler.proofs.Lays.{refused-6-or-7}
+use Rattle.compiler.proofs.Lays.{never, refused-6-or-7}
 use Rattle.compiler.proofs.Reading.{read-refuses}
-use Rattle.compiler.proofs.Refusals.{lexemes-refuse}
+use Rattle.compiler.proofs.Refusals.{Only, no-refusal, by-number, only-from, only-number, only-test, only-pass, lexemes-refuse}
 
 -- what the two clauses say, with all limits
 pub record Promised (limits : Limits) (text : List ℕ) (n : ℕ) (r : Answer) (table : List ℤ) : Type 0 where
@@ -35,7 +35,7 @@ unfolding lexed short-enough pass
 lexed-given limit most text ls = by (ltb limit (length text))
   where
     by : (b : Bool) → pass (cond b (refused 1 0) (given (tt {0}))) (λ _. lexemes most text) ≡ given ls → lexemes most text ≡ given ls
-    by true e = let z : _≡_ {A = ℕ} 0 1 = cc in absurd (omega arith)
+    by true e = never (sym e)
     by false e = e
 
 -- the two clauses together are the definition
@@ -49,40 +49,23 @@ whole limits text n r table p = by (lexed (limits .text) (sizes limits) text) re
 
 -- ---- no refusal has the number 0
 
-unfoldable Numbered : {X : Type 0} → A.Answer X → Type 0
-Numbered (given a) = Unit {0}
-Numbered (refused k p) = k ≡ 0 → ⊥
-
-numbered : {X : Type 0} (a : A.Answer X) → ((k p : ℕ) → a ≡ refused k p → k ≡ 0 → ⊥) → Numbered a
-unfolding Numbered
-numbered (given a) h = tt
-numbered (refused k p) h = h k p refl
-
-numbered-pass : {X Y : Type 0} (a : A.Answer X) (f : X → A.Answer Y) → Numbered a → ((x : X) → Numbered (f x)) → Numbered (pass a f)
-unfolding Numbered pass
-numbered-pass (given a) f h g = g a
-numbered-pass (refused k p) f h g = h
-
-numbered-test : {X : Type 0} (b : Bool) (k p : ℕ) (a : X) → (k ≡ 0 → ⊥) → Numbered (cond b (refused k p) (given a))
-unfolding Numbered
-numbered-test true k p a h = h
-numbered-test false k p a h = tt
-
-fitting-numbered : (limit pairs : ℕ) (a : C.Accepted) → Numbered (fitting limit pairs a)
-unfolding fitting
-fitting-numbered limit pairs a = numbered-test (ltb limit (length (code-of-text a)) || ltb pairs (length (code-of-text a))) 8 0 a (λ z. omega arith)
+abbrev Numbered : {X : Type 0} → A.Answer X → Type 0
+Numbered = Only (λ n. n ≡ 0 → ⊥)
 
 compiled-numbered : (limits : Limits) (text : List ℕ) (n : ℕ) → Numbered (compiled limits text n)
-unfolding compiled lexed short-enough laid-out resolved named pass
+unfolding compiled lexed short-enough laid-out fitting resolved named pass
 compiled-numbered limits text n =
-    numbered-pass _ _
-    (numbered-pass _ _ (numbered-test (ltb (limits .text) (length text)) 1 0 (tt {0}) (λ z. omega arith))
-    (λ _. numbered _ (λ k p e z. ⊎-elim (λ h. omega arith) (λ h. omega arith) (lexemes-refuse (sizes limits) text k p e))))
-    (λ ls. numbered-pass _ _
-    (numbered _ (λ k p e z. ⊎-elim (λ h. omega arith) (λ h. omega arith) (read-refuses (limits .nesting) ls k p e)))
-    (λ m. numbered-pass _ _
-    (numbered _ (λ k p e z. ⊎-elim (λ h. omega arith) (λ h. omega arith) (refused-6-or-7 (limits .declarations) m nothing-declared k p e)))
-    (λ k. fitting-numbered (limits .instructions) (n / 2) _)))
+    only-pass
+    (only-pass (only-test (ltb (limits .text) (length text)) (by-number (λ z. omega arith)) no-refusal)
+    (λ _. only-from _ (λ k p e z. ⊎-elim (λ h. omega arith) (λ h. omega arith) (lexemes-refuse (sizes limits) text k p e))))
+    (λ ls. only-pass
+    (only-from _ (λ k p e z. ⊎-elim (λ h. omega arith) (λ h. omega arith) (read-refuses (limits .nesting) ls k p e)))
+    (λ m. only-pass
+    (only-from _ (λ k p e z. ⊎-elim (λ h. omega arith) (λ h. omega arith) (refused-6-or-7 (limits .declarations) m nothing-declared k p e)))
+    (λ k.
+    let a : C.Accepted = record { command = k .what; cells = k .scope .declared } in
+    let m = length (code-of-text a) in
+    only-test (ltb (limits .instructions) m || ltb (n / 2) m) (by-number (λ z. omega arith)) no-refusal)))
 
 -- ---- one answer
 
@@ -93,10 +76,10 @@ answer-of (refused k p) = Refused k p
 
 -- code has an instruction, so that a report tells an accepted text from a refused one
 told : (a : A.Answer C.Accepted) → Numbered a → (r : Answer) → reported r ≡ report a → r ≡ answer-of a
-unfolding Numbered reported report answer-of code-of-text
+unfolding reported report answer-of code-of-text
 told (given a) h (Accepted i c m) e = ap (λ (x : Report). Accepted (x .instructions) (x .cells) (x .need)) e
 told (given a) h (Refused k p) e = absurd (omega (arith, ap (λ (x : Report). x .instructions) e, laid-program (a .cells) (a .command) .long))
-told (refused k p) h (Accepted i c m) e = absurd (h (sym (ap (λ (x : Report). x .number) e)))
+told (refused k p) h (Accepted i c m) e = absurd (only-number h refl (sym (ap (λ (x : Report). x .number) e)))
 told (refused k p) h (Refused j q) e = ap (λ (x : Report). Refused (x .number) (x .place)) e
 
 module _ (limits : Limits) (text : List ℕ) (n : ℕ) where
