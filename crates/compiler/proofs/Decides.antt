@@ -22,7 +22,7 @@ use Rattle.lexeme.proofs.Found.{the-type}
 use Rattle.sentence.specs.Sentences.{Sen, command}
 use Rattle.sentence.specs.Reader.{read}
 use Rattle.names.specs.Names.{Known, nothing-declared, resolved}
-use Rattle.machine.specs.Instructions.{halt, push-int, pair, numbers}
+use Rattle.machine.specs.Instructions.{halt, push-int, pair}
 use Rattle.meaning.specs.Layout.{size, need, code, program-code, program-need}
 use Rattle.meaning.proofs.Laid.{laid-program}
 use Rattle.compiler.specs.declared.walk.Walk.{Walk}
@@ -39,12 +39,9 @@ use Rattle.compiler.specs.Tables.{put, emit, opening}
 use Rattle.compiler.specs.Walks.{named, scope-of, Laid, spare, Lays, Set-out, start-at, Reads-program}
 use Rattle.compiler.proofs.Emits.{emit-append, emit-code, emit-one}
 use Rattle.compiler.proofs.Filled.{filled-by-code}
-use Rattle.compiler.proofs.Lays.{fault-0-6-7}
+use Rattle.compiler.proofs.Lays.{never, fault-0-6-7}
 use Rattle.compiler.proofs.Reading.{read-refuses}
 use Rattle.compiler.proofs.Refusals.{lexemes-refuse}
-
-never : {B C : Type 0} {b : B} {n p : ℕ} → given b ≡ refused n p → C
-never e = let z : _≡_ {A = ℕ} 0 1 = cc in absurd (omega arith)
 
 -- ---- the Program
 

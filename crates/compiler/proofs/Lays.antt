@@ -31,6 +31,7 @@ use Rattle.compiler.specs.Steps.{moved-to, one-more, needing, faulted-wa
 use Rattle.compiler.specs.Tables.{put, emit}
 use Rattle.compiler.specs.Walks.{named, scope-of, Laid, spare, Small, Kept, Lays, Ready}
 use Rattle.compiler.specs.Lexing.{Clean}
+use Rattle.compiler.proofs.Refusals.{Only, no-refusal, by-number, only-number, only-test, only-pass}
 use Rattle.compiler.proofs.Emits.{put-put, emit-code, emit-one, put-before, mul-operation, sign-operation, rel-operation}
 
 -- ---- answers
@@ -40,7 +41,7 @@ data Leads {A : Type 0} (P : A → Type 0) (s : Answer Scope) (o : Answer (Known
   gives : (r : Known A) → o ≡ given r → s ≡ given (r .scope) → P (r .what) → Leads P s o
   refuses : (n p : ℕ) → o ≡ refused n p → s ≡ refused n p → Leads P s o
 
-never : {A C : Type 0} {a : A} {n p : ℕ} → given a ≡ refused n p → C
+pub never : {A C : Type 0} {a : A} {n p : ℕ} → given a ≡ refused n p → C
 never e = let z : _≡_ {A = ℕ} 0 1 = cc in absurd (omega arith)
 
 given-has : {A : Type 0} {P : A → Type 0} {s : Answer Scope} {o : Answer (Known A)} → Leads P s o → (r : Known A) → o ≡ given r → P (r .what)
@@ -537,46 +538,35 @@ module _ {text names names′ : List ℕ} {table table′ : List ℤ} {w v : Wal
 
 -- ---- refusals
 
--- a refusal is 6 or 7
-Only : {A : Type 0} → Answer A → Type 0
-Only (given a) = Unit {0}
-Only (refused n p) = (n ≡ 6) ⊎ (n ≡ 7)
+abbrev Six-or-seven : ℕ → Type 0
+Six-or-seven n = (n ≡ 6) ⊎ (n ≡ 7)
 
 record Refusing {A : Type 0} (m : Naming A) : Type 0 where
-  only : (s : Scope) → Only (m s)
-
-only-pass : {A B : Type 0} (o : Answer A) (f : A → Answer B) → Only o → ((a : A) → Only (f a)) → Only (pass o f)
-unfolding Only pass
-only-pass (given a) f p q = q a
-only-pass (refused n i) f p q = p
+  only : (s : Scope) → Only Six-or-seven (m s)
 
 gives-all : {A : Type 0} (a : A) → Refusing (give a)
-unfolding give Only
-gives-all a = record { only = λ s. tt }
+unfolding give
+gives-all a = record { only = λ s. no-refusal }
 
 binds : {A B : Type 0} {m : Naming A} {f : A → Naming B} → Refusing m → ((a : A) → Refusing (f a)) → Refusing (m >>= f)
 unfolding _>>=_
-binds {m} {f} p q = record { only = λ s. only-pass (m s) (λ a. f (a .what) (a .scope)) (p .only s) (λ a. q (a .what) .only (a .scope)) }
+binds p q = record { only = λ s. only-pass (p .only s) (λ a. q (a .what) .only (a .scope)) }
 
 uses : (x : Name) → Refusing (used x)
 unfolding used
 uses x = record { only = λ s. rw look-up-found (by s (found (s .visible) (x .letters))) }
   where
-    by : (s : Scope) (c : Cell) → Only (of-cell x s c)
-    by s (At k) = unfold of-cell Only in tt
-    by s Nowhere = unfold of-cell Only in inl refl
+    by : (s : Scope) (c : Cell) → Only Six-or-seven (of-cell x s c)
+    by s (At k) = unfold of-cell in no-refusal
+    by s Nowhere = unfold of-cell in by-number (inl refl)
 
 declares : (limit : ℕ) (x : Name) → Refusing (declared-here limit x)
 unfolding declared-here
-declares limit x = record { only = λ s. by s (ltb (s .declared) limit) }
-  where
-    by : (s : Scope) (b : Bool) → Only {A = Known ℕ} (cond b (given (record { what = s .declared; scope = N.one-more x s })) (refused 7 (x .place)))
-    by s true = unfold Only in tt
-    by s false = unfold Only in inr refl
+declares limit x = record { only = λ s. only-test (ltb (s .declared) limit) no-refusal (by-number (inr refl)) }
 
 closes : {A : Type 0} {m : Naming A} → Refusing m → Refusing (scoped m)
-unfolding scoped Only
-closes {m} p = record { only = λ s. only-pass (m s) (λ a. given (record { what = a .what; scope = record { visible = s .visible; declared = a .scope .declared } })) (p .only s) (λ a. tt) }
+unfolding scoped
+closes p = record { only = λ s. only-pass (p .only s) (λ a. no-refusal) }
 
 module _ (limit : ℕ) where
   resolves : {k : Kind} (x : Sen Name k) → Refusing (resolve limit x)
@@ -606,7 +596,7 @@ module _ (limit : ℕ) where
 
   pub refused-6-or-7 : {k : Kind} (x : Sen Name k) (s : Scope) (n p : ℕ) → named limit x (given s) ≡ refused n p → (n ≡ 6) ⊎ (n ≡ 7)
   unfolding named pass
-  refused-6-or-7 x s n p e = unfold Only in subst (λ o. Only o) e (resolves x .only s)
+  refused-6-or-7 x s n p e = only-number (resolves x .only s) e
 
 -- a walk that began with no refusal has none, or 6 or 7
 pub fault-0-6-7 : {k : Kind} {text names names′ : List ℕ} {table table′ : List ℤ} {w v : Walk} {x : Sen Name k} {s : Scope} → stand text names w ≡ given s → Lays text names table w x names′ table′ v → (v .fault ≡ 0) ⊎ ((v .fault ≡ 6) ⊎ (v .fault ≡ 7))

@@ -18,3 +18,4 @@ pub mod Refusals
 pub mod Replies
 pub mod Sizes
 pub mod Stores
+pub mod Unique

@@ -21,6 +21,7 @@ use Rattle.compiler.specs.declared.walk.Read.the-variants.{Done, Refused
 use Rattle.compiler.specs.Lexing.{Lexes, Clean, Expects}
 use Rattle.compiler.specs.Steps.{fixed-number, sign-number, mul-number, rel-number, moved-to}
 use Rattle.compiler.specs.Walks.{read-via, Passes, Refuses}
+use Rattle.compiler.proofs.Refusals.{Only, no-refusal, by-number, only-number}
 use Rattle.compiler.proofs.Looked.{not-empty, Seen, seen, seen-name, seen-sign, seen-mul, seen-rel, no-fixed}
 
 -- ---- one lexeme
@@ -286,30 +287,29 @@ after-met sizes c m h = rw (m .ends) (after-fixed sizes c (m .seen) (λ z. h (sy
 
 -- ---- the numbers of refusals
 
-unfoldable By-4-or-5 : Answer (Sen Name command) → Type 0
-By-4-or-5 (given m) = Unit {0}
-By-4-or-5 (refused n p) = (n ≡ 4) ⊎ (n ≡ 5)
+abbrev Four-or-five : ℕ → Type 0
+Four-or-five n = (n ≡ 4) ⊎ (n ≡ 5)
 
-by-4-or-5 : (limit : ℕ) (s : State) (ls : List Placed) → By-4-or-5 (read-from limit s ls)
-unfolding read-from By-4-or-5
+by-4-or-5 : (limit : ℕ) (s : State) (ls : List Placed) → Only Four-or-five (read-from limit s ls)
+unfolding read-from
 by-4-or-5 limit s [] = by-verdict (verdict s)
   where
-    by-verdict : (v : Verdict) → By-4-or-5 (elim v [ goes-on d ↦ refused 4 0 | is-whole m ↦ given m | begins-none ↦ refused 4 0 ])
-    by-verdict (goes-on d) = inl refl
-    by-verdict (is-whole m) = tt
-    by-verdict begins-none = inl refl
+    by-verdict : (v : Verdict) → Only Four-or-five {A = Sen Name command} (elim v [ goes-on d ↦ refused 4 0 | is-whole m ↦ given m | begins-none ↦ refused 4 0 ])
+    by-verdict (goes-on d) = by-number (inl refl)
+    by-verdict (is-whole m) = no-refusal
+    by-verdict begins-none = by-number (inl refl)
 by-4-or-5 limit s (l ∷ ls) = by-verdict (by-4-or-5 limit (step s (l .what)) ls) (λ m. by-4-or-5 limit (whole m) ls) (verdict (step s (l .what)))
   where
-    by-verdict : By-4-or-5 (read-from limit (step s (l .what)) ls) → ((m : Sen Name command) → By-4-or-5 (read-from limit (whole m) ls)) → (v : Verdict) → By-4-or-5 (settled limit l ls (step s (l .what)) v)
+    by-verdict : Only Four-or-five (read-from limit (step s (l .what)) ls) → ((m : Sen Name command) → Only Four-or-five (read-from limit (whole m) ls)) → (v : Verdict) → Only Four-or-five (settled limit l ls (step s (l .what)) v)
     by-verdict on done (goes-on d) = by-test (ltb limit d)
       where
-        by-test : (b : Bool) → By-4-or-5 (tested limit l ls (step s (l .what)) b)
-        by-test true = inr refl
+        by-test : (b : Bool) → Only Four-or-five (tested limit l ls (step s (l .what)) b)
+        by-test true = by-number (inr refl)
         by-test false = on
     by-verdict on done (is-whole m) = done m
-    by-verdict on done begins-none = inl refl
+    by-verdict on done begins-none = by-number (inl refl)
 
 -- the reader of sentences refuses by 4 and 5 only
 pub read-refuses : (limit : ℕ) (ls : List Placed) (n p : ℕ) → read limit ls ≡ refused n p → (n ≡ 4) ⊎ (n ≡ 5)
-unfolding read By-4-or-5
-read-refuses limit ls n p h = subst By-4-or-5 h (by-4-or-5 limit want-DO ls)
+unfolding read
+read-refuses limit ls n p h = only-number (by-4-or-5 limit want-DO ls) h

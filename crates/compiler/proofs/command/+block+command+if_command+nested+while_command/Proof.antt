@@ -8,12 +8,13 @@ use borrow.Author.Needs.{needs}
 use borrow.Author.Tests.{ne-eqb}
 use types.Run.{miss}
 use mir.Facts.{toZ-ofZ}
+use denote.Ref.{now}
 use lib.IntN.{ℤ}
 use lib.ListN.{length}
 use Rattle.sentence.specs.Sentences.{error}
 use Rattle.compiler.specs.Steps.{moved-to, one-more, needing}
 use Rattle.compiler.specs.Walks.{Reads, Reads-nested}
-use Rattle.compiler.proofs.Bodies.{seen-first, past-fixed, past-name, reads-past, headed, head-small, ready-headed, body-small, when-read, while-read, So-far, so-far-one, ready-so-far, so-far-later, so-far-more, so-far-closed}
+use Rattle.compiler.proofs.Bodies.{seen-first, past-fixed, past-name, reads-past, Headed, headed, head-small, ready-headed, body-small, when-read, while-read, So-far, so-far-one, ready-so-far, so-far-later, so-far-more, so-far-closed}
 use Rattle.compiler.proofs.Commands.{when-leads, while-leads, block-more, when-refused, while-refused, no-then, no-do, block-first, reads-nested, error-read, assign-begins, declare-begins, print-begins, line-begins, string-begins, read-begins, nested-begins, nested-too-deep, no-command}
 use Rattle.compiler.proofs.Lays.{lays-error}
 use Rattle.compiler.proofs.Looked.{seen}
@@ -157,14 +158,18 @@ block-returns t c = rw (c .enum-told .given .1) (block-first _ _ _ .refuses _ _ 
 block-loop-holds : (t : ℕ) → block-lts.Need-loop-holds (block-claims t) (block-at t) block.Post block-Inv-loop block-μ-loop
 block-loop-holds t c = (refl, refl, λ names₁ table₁ x. x)
 
+-- the commands read when the loop's test is reached
+block-read : (t : ℕ) (c : block-lts.At-loop (block-claims t) (block-at t) block.Post block-Inv-loop block-μ-loop) → So-far (now (c .before .before .before .before .before .before .before .before .before .before .before .before .args .text)) (now (c .before .before .before .before .before .before .before .before .before .before .before .before .args .names)) (now (c .before .before .before .before .before .before .before .before .before .before .before .before .args .table)) (c .before .before .before .before .before .before .before .before .before .before .before .before .args .w) (c .before .before .before .before .before .before .before .before .before .before .before .before .args .allow) (c .loop .names) (c .loop .table) (c .loop .done)
+block-read t c = c .loop .inv .2 _ _ (so-far-one (c .before .before .first .given .1) (c .before .before .before .before .before .before .before .command .ensures))
+
 block-look-requires : (t : ℕ) → block-lts.Need-look-requires (block-claims t) (block-at t) block.Post block-Inv-loop block-μ-loop
-block-look-requires t c κs = ready-so-far (c .before .before .before .before .before .before .before .before .before .before .before .before .pre .1) (c .loop .inv .2 _ _ (so-far-one (c .before .before .first .given .1) (c .before .before .before .before .before .before .before .command .ensures))) .clean
+block-look-requires t c κs = ready-so-far (c .before .before .before .before .before .before .before .before .before .before .before .before .pre .1) (block-read t (c)) .clean
 
 block-fixed-of-requires : (t : ℕ) → block-lts.Need-fixed-of-requires (block-claims t) (block-at t) block.Post block-Inv-loop block-μ-loop
 block-fixed-of-requires t c κs = search needs
 
 block-close-requires : (t : ℕ) → block-lts.Need-close-requires (block-claims t) (block-at t) block.Post block-Inv-loop block-μ-loop
-block-close-requires t c κs = let b = (c .before .before .before .before .loop .inv .2 _ _ (so-far-one (c .before .before .before .before .before .before .first .given .1) (c .before .before .before .before .before .before .before .before .before .before .before .command .ensures))) in (b .laid .small .declared, omega (arith, b .laid .small .room, b .laid .kept .count))
+block-close-requires t c κs = let b = (block-read t (c .before .before .before .before)) in (b .laid .small .declared, omega (arith, b .laid .small .room, b .laid .kept .count))
 
 block-moved-requires : (t : ℕ) → block-lts.Need-moved-requires (block-claims t) (block-at t) block.Post block-Inv-loop block-μ-loop
 block-moved-requires t c κs = search needs
@@ -176,10 +181,10 @@ block-same-length-4 : (t : ℕ) → block-lts.Need-same-length-4 (block-claims t
 block-same-length-4 t c = search needs
 
 block-returns-2 : (t : ℕ) → block-lts.Need-returns-2 (block-claims t) (block-at t) block.Post block-Inv-loop block-μ-loop
-block-returns-2 t c = rw (c .moved .ensures, c .before .before .before .close .ensures) (so-far-closed (c .before .before .before .before .before .before .before .before .loop .inv .2 _ _ (so-far-one (c .before .before .before .before .before .before .before .before .before .before .first .given .1) (c .before .before .before .before .before .before .before .before .before .before .before .before .before .before .before .command .ensures))) (seen _ _ _ _ (ready-so-far (c .before .before .before .before .before .before .before .before .before .before .before .before .before .before .before .before .before .before .before .before .pre .1) (c .before .before .before .before .before .before .before .before .loop .inv .2 _ _ (so-far-one (c .before .before .before .before .before .before .before .before .before .before .first .given .1) (c .before .before .before .before .before .before .before .before .before .before .before .before .before .before .before .command .ensures))) .clean) (c .before .before .before .before .before .before .before .look .ensures)) (c .before .before .before .before .before .before .fixed-of .ensures) (c .before .before .before .before .before .if1 .taken))
+block-returns-2 t c = rw (c .moved .ensures, c .before .before .before .close .ensures) (so-far-closed (block-read t (c .before .before .before .before .before .before .before .before)) (seen _ _ _ _ (ready-so-far (c .before .before .before .before .before .before .before .before .before .before .before .before .before .before .before .before .before .before .before .before .pre .1) (block-read t (c .before .before .before .before .before .before .before .before)) .clean) (c .before .before .before .before .before .before .before .look .ensures)) (c .before .before .before .before .before .before .fixed-of .ensures) (c .before .before .before .before .before .if1 .taken))
 
 block-command-requires-2 : (t : ℕ) → block-lts.Need-command-requires-2 (block-claims t) (block-at t) block.Post block-Inv-loop block-μ-loop
-block-command-requires-2 t c κs = (omega (arith, c .before .before .before .before .before .before .before .before .before .before .before .before .before .before .before .before .before .pre .0), ready-so-far (c .before .before .before .before .before .before .before .before .before .before .before .before .before .before .before .before .before .pre .1) (c .before .before .before .before .before .loop .inv .2 _ _ (so-far-one (c .before .before .before .before .before .before .before .first .given .1) (c .before .before .before .before .before .before .before .before .before .before .before .before .command .ensures))))
+block-command-requires-2 t c κs = (omega (arith, c .before .before .before .before .before .before .before .before .before .before .before .before .before .before .before .before .before .pre .0), ready-so-far (c .before .before .before .before .before .before .before .before .before .before .before .before .before .before .before .before .before .pre .1) (block-read t (c .before .before .before .before .before)))
 
 block-enum-known-r : (t : ℕ) → block-lts.Need-enum-known-r (block-claims t) (block-at t) block.Post block-Inv-loop block-μ-loop
 block-enum-known-r t c = search needs
@@ -195,7 +200,7 @@ block-same-length-6 t c = search needs
 
 block-returns-3 : (t : ℕ) → block-lts.Need-returns-3 (block-claims t) (block-at t) block.Post block-Inv-loop block-μ-loop
 unfolding Reads
-block-returns-3 t c = rw (c .enum-told2 .given .1) (block-more _ _ ((c .before .before .before .before .before .before .before .before .before .before .before .loop .inv .2 _ _ (so-far-one (c .before .before .before .before .before .before .before .before .before .before .before .before .before .first .given .1) (c .before .before .before .before .before .before .before .before .before .before .before .before .before .before .before .before .before .before .command .ensures))) .passed) (seen _ _ _ _ (ready-so-far (c .before .before .before .before .before .before .before .before .before .before .before .before .before .before .before .before .before .before .before .before .before .before .before .pre .1) (c .before .before .before .before .before .before .before .before .before .before .before .loop .inv .2 _ _ (so-far-one (c .before .before .before .before .before .before .before .before .before .before .before .before .before .first .given .1) (c .before .before .before .before .before .before .before .before .before .before .before .before .before .before .before .before .before .before .command .ensures))) .clean) (c .before .before .before .before .before .before .before .before .before .before .look .ensures)) (λ h. c .before .before .before .before .before .before .before .before .if1 .left (c .before .before .before .before .before .before .before .before .before .fixed-of .ensures ∙ h)) .refuses _ _ (rw (c .enum-told2 .given .1) at (c .before .before .before .before .before .command2 .ensures)))
+block-returns-3 t c = rw (c .enum-told2 .given .1) (block-more _ _ ((block-read t (c .before .before .before .before .before .before .before .before .before .before .before)) .passed) (seen _ _ _ _ (ready-so-far (c .before .before .before .before .before .before .before .before .before .before .before .before .before .before .before .before .before .before .before .before .before .before .before .pre .1) (block-read t (c .before .before .before .before .before .before .before .before .before .before .before)) .clean) (c .before .before .before .before .before .before .before .before .before .before .look .ensures)) (λ h. c .before .before .before .before .before .before .before .before .if1 .left (c .before .before .before .before .before .before .before .before .before .fixed-of .ensures ∙ h)) .refuses _ _ (rw (c .enum-told2 .given .1) at (c .before .before .before .before .before .command2 .ensures)))
 
 block-larger-requires : (t : ℕ) → block-lts.Need-larger-requires (block-claims t) (block-at t) block.Post block-Inv-loop block-μ-loop
 block-larger-requires t c κs = search needs
@@ -205,10 +210,10 @@ block-with-need-requires t c κs = search needs
 
 block-loop-less : (t : ℕ) → block-lts.Need-loop-less (block-claims t) (block-at t) block.Post block-Inv-loop block-μ-loop
 unfolding needing
-block-loop-less t c = rw (c .with-need .ensures) (omega (arith, so-far-later (c .before .before .before .before .before .before .before .before .before .before .before .before .before .before .before .before .before .before .before .before .before .before .before .before .before .before .pre .1) (c .before .before .before .before .before .before .before .before .before .before .before .before .before .before .loop .inv .2 _ _ (so-far-one (c .before .before .before .before .before .before .before .before .before .before .before .before .before .before .before .before .first .given .1) (c .before .before .before .before .before .before .before .before .before .before .before .before .before .before .before .before .before .before .before .before .before .command .ensures))) _ _ (c .before .before .before .r .given .1) (c .before .before .before .before .before .before .before .before .command2 .ensures)))
+block-loop-less t c = rw (c .with-need .ensures) (omega (arith, so-far-later (c .before .before .before .before .before .before .before .before .before .before .before .before .before .before .before .before .before .before .before .before .before .before .before .before .before .before .pre .1) (block-read t (c .before .before .before .before .before .before .before .before .before .before .before .before .before .before)) _ _ (c .before .before .before .r .given .1) (c .before .before .before .before .before .before .before .before .command2 .ensures)))
 
 block-loop-again : (t : ℕ) → block-lts.Need-loop-again (block-claims t) (block-at t) block.Post block-Inv-loop block-μ-loop
-block-loop-again t c = (omega (arith, c .before .before .before .before .before .before .before .before .command2 .kept .1 .0, c .before .before .before .before .before .before .before .before .before .before .before .before .before .before .loop .inv .0), omega (arith, c .before .before .before .before .before .before .before .before .command2 .kept .1 .1 .0, c .before .before .before .before .before .before .before .before .before .before .before .before .before .before .loop .inv .1), λ names₁ table₁ x. rw (c .with-need .ensures, c .before .larger .ensures) (so-far-more (c .before .before .before .before .before .before .before .before .before .before .before .before .before .before .loop .inv .2 names₁ table₁ x) (seen _ _ _ _ (ready-so-far (c .before .before .before .before .before .before .before .before .before .before .before .before .before .before .before .before .before .before .before .before .before .before .before .before .before .before .pre .1) (c .before .before .before .before .before .before .before .before .before .before .before .before .before .before .loop .inv .2 _ _ (so-far-one (c .before .before .before .before .before .before .before .before .before .before .before .before .before .before .before .before .first .given .1) (c .before .before .before .before .before .before .before .before .before .before .before .before .before .before .before .before .before .before .before .before .before .command .ensures))) .clean) (c .before .before .before .before .before .before .before .before .before .before .before .before .before .look .ensures)) (c .before .before .before .before .before .before .before .before .before .before .before .before .fixed-of .ensures) (c .before .before .before .before .before .before .before .before .before .before .before .if1 .left) (c .before .before .before .r .given .1) (c .before .before .before .before .before .before .before .before .command2 .ensures)))
+block-loop-again t c = (omega (arith, c .before .before .before .before .before .before .before .before .command2 .kept .1 .0, c .before .before .before .before .before .before .before .before .before .before .before .before .before .before .loop .inv .0), omega (arith, c .before .before .before .before .before .before .before .before .command2 .kept .1 .1 .0, c .before .before .before .before .before .before .before .before .before .before .before .before .before .before .loop .inv .1), λ names₁ table₁ x. rw (c .with-need .ensures, c .before .larger .ensures) (so-far-more (c .before .before .before .before .before .before .before .before .before .before .before .before .before .before .loop .inv .2 names₁ table₁ x) (seen _ _ _ _ (ready-so-far (c .before .before .before .before .before .before .before .before .before .before .before .before .before .before .before .before .before .before .before .before .before .before .before .before .before .before .pre .1) (block-read t (c .before .before .before .before .before .before .before .before .before .before .before .before .before .before)) .clean) (c .before .before .before .before .before .before .before .before .before .before .before .before .before .look .ensures)) (c .before .before .before .before .before .before .before .before .before .before .before .before .fixed-of .ensures) (c .before .before .before .before .before .before .before .before .before .before .before .if1 .left) (c .before .before .before .r .given .1) (c .before .before .before .before .before .before .before .before .command2 .ensures)))
 
 command-look-requires : (t : ℕ) → command-lts.Need-look-requires (command-claims t) (command-at t) command.Post
 command-look-requires t c κs = c .before .before .pre .1 .clean
@@ -367,11 +372,15 @@ if-command-returns-2 : (t : ℕ) → if-command-lts.Need-returns-2 (if-command-c
 unfolding Reads
 if-command-returns-2 t c = let g = (rw (c .before .before .before .before .r .given .1) at (c .before .before .before .before .before .before .before .condition .ensures)) in rw (c .enum-told2 .given .1) (no-then _ _ (g .1) (missed _ _ _ _ _ _ (clean-passed _ (g .1) (c .before .before .before .before .before .before .before .before .before .before .before .before .pre .1 .clean)) (rw (c .enum-told2 .given .1) at (c .before .before .expect .ensures))))
 
+-- the condition and THEN
+if-command-head : (t : ℕ) (c : if-command-lts.After-s (if-command-claims t) (if-command-at t) if-command.Post) → Headed 19 (now (c .before .before .before .before .before .before .before .before .before .before .before .before .args .text)) (now (c .before .before .before .before .before .before .before .before .before .before .before .before .args .names)) (now (c .before .before .before .before .before .before .before .before .before .before .before .before .args .table)) (c .before .before .before .before .before .before .before .before .before .before .before .before .args .w) (c .before .before .before .before .before .before .before .before .before .before .before .before .args .allow) (c .before .before .before .before .before .before .before .condition .last .1 .1 .0) (c .s .given .0 .0)
+if-command-head t c = headed (c .before .before .before .before .before .before .before .before .before .before .before .before .pre .1) (c .before .before .before .before .r .given .1) (c .before .before .before .before .before .before .before .condition .ensures) (c .s .given .1) (c .before .before .expect .ensures)
+
 if-command-skipped-requires : (t : ℕ) → if-command-lts.Need-skipped-requires (if-command-claims t) (if-command-at t) if-command.Post
-if-command-skipped-requires t c κs = head-small (λ z. omega arith) (c .before .before .before .before .before .before .before .before .before .before .before .before .before .before .before .pre .1) (headed (c .before .before .before .before .before .before .before .before .before .before .before .before .before .before .before .pre .1) (c .before .before .before .before .before .before .before .r .given .1) (c .before .before .before .before .before .before .before .before .before .before .condition .ensures) (c .before .before .before .s .given .1) (c .before .before .before .before .before .expect .ensures))
+if-command-skipped-requires t c κs = head-small (λ z. omega arith) (c .before .before .before .before .before .before .before .before .before .before .before .before .before .before .before .pre .1) (if-command-head t (c .before .before .before))
 
 if-command-command-requires : (t : ℕ) → if-command-lts.Need-command-requires (if-command-claims t) (if-command-at t) if-command.Post
-if-command-command-requires t c κs = (omega (arith, c .before .before .before .before .before .before .before .before .before .before .before .before .before .before .before .before .pre .0), ready-headed (λ z. omega arith) (c .before .before .before .before .before .before .before .before .before .before .before .before .before .before .before .before .pre .1) (headed (c .before .before .before .before .before .before .before .before .before .before .before .before .before .before .before .before .pre .1) (c .before .before .before .before .before .before .before .before .r .given .1) (c .before .before .before .before .before .before .before .before .before .before .before .condition .ensures) (c .before .before .before .before .s .given .1) (c .before .before .before .before .before .before .expect .ensures)) (c .skipped .ensures))
+if-command-command-requires t c κs = (omega (arith, c .before .before .before .before .before .before .before .before .before .before .before .before .before .before .before .before .pre .0), ready-headed (λ z. omega arith) (c .before .before .before .before .before .before .before .before .before .before .before .before .before .before .before .before .pre .1) (if-command-head t (c .before .before .before .before)) (c .skipped .ensures))
 
 if-command-enum-known-t : (t : ℕ) → if-command-lts.Need-enum-known-t (if-command-claims t) (if-command-at t) if-command.Post
 if-command-enum-known-t t c = search needs
@@ -387,10 +396,10 @@ if-command-same-length-6 t c = search needs
 
 if-command-returns-3 : (t : ℕ) → if-command-lts.Need-returns-3 (if-command-claims t) (if-command-at t) if-command.Post
 unfolding Reads one-more
-if-command-returns-3 t c = let b = (headed (c .before .before .before .before .before .before .before .before .before .before .before .before .before .before .before .before .before .before .before .before .before .before .pre .1) (c .before .before .before .before .before .before .before .before .before .before .before .before .before .before .r .given .1) (c .before .before .before .before .before .before .before .before .before .before .before .before .before .before .before .before .before .condition .ensures) (c .before .before .before .before .before .before .before .before .before .before .s .given .1) (c .before .before .before .before .before .before .before .before .before .before .before .before .expect .ensures)) in rw (c .enum-told3 .given .1) (when-leads _ _ (b .passed) (b .next .met) .refuses _ _ (rw (c .before .before .before .before .before .before .skipped .ensures, c .enum-told3 .given .1) at (c .before .before .before .before .before .command .ensures)))
+if-command-returns-3 t c = let b = (if-command-head t (c .before .before .before .before .before .before .before .before .before .before)) in rw (c .enum-told3 .given .1) (when-leads _ _ (b .passed) (b .next .met) .refuses _ _ (rw (c .before .before .before .before .before .before .skipped .ensures, c .enum-told3 .given .1) at (c .before .before .before .before .before .command .ensures)))
 
 if-command-cast-put : (t : ℕ) → if-command-lts.Need-cast-put (if-command-claims t) (if-command-at t) if-command.Post
-if-command-cast-put t c = count-fits (omega (arith, body-small (λ z. omega arith) (c .before .before .before .before .before .before .before .before .before .before .before .before .before .before .before .before .before .before .before .before .before .before .before .before .before .pre .1) (headed (c .before .before .before .before .before .before .before .before .before .before .before .before .before .before .before .before .before .before .before .before .before .before .before .before .before .pre .1) (c .before .before .before .before .before .before .before .before .before .before .before .before .before .before .before .before .before .r .given .1) (c .before .before .before .before .before .before .before .before .before .before .before .before .before .before .before .before .before .before .before .before .condition .ensures) (c .before .before .before .before .before .before .before .before .before .before .before .before .before .s .given .1) (c .before .before .before .before .before .before .before .before .before .before .before .before .before .before .before .expect .ensures)) _ _ (c .before .before .before .before .before .before .before .before .before .skipped .ensures) (c .before .before .before .t .given .1) (c .before .before .before .before .before .before .before .before .command .ensures)))
+if-command-cast-put t c = count-fits (omega (arith, body-small (λ z. omega arith) (c .before .before .before .before .before .before .before .before .before .before .before .before .before .before .before .before .before .before .before .before .before .before .before .before .before .pre .1) (if-command-head t (c .before .before .before .before .before .before .before .before .before .before .before .before .before)) _ _ (c .before .before .before .before .before .before .before .before .before .skipped .ensures) (c .before .before .before .t .given .1) (c .before .before .before .before .before .before .before .before .command .ensures)))
 
 if-command-put-requires : (t : ℕ) → if-command-lts.Need-put-requires (if-command-claims t) (if-command-at t) if-command.Post
 if-command-put-requires t c κs = search needs
@@ -408,7 +417,7 @@ if-command-same-length-8 : (t : ℕ) → if-command-lts.Need-same-length-8 (if-c
 if-command-same-length-8 t c = omega (arith, c .before .before .before .put .kept .0, c .before .before .before .before .before .before .before .before .before .before .before .before .command .kept .1 .1 .0, c .before .before .before .before .before .before .before .before .before .before .before .before .before .before .before .before .before .before .before .before .before .before .before .before .condition .kept .1 .1 .0)
 
 if-command-returns-4 : (t : ℕ) → if-command-lts.Need-returns-4 (if-command-claims t) (if-command-at t) if-command.Post
-if-command-returns-4 t c = rw (c .with-need .ensures, c .before .larger .ensures, c .before .before .before .put .ensures, toZ-ofZ (if-command-cast-put t (c .before .before .before .before))) (when-read _ _ (c .before .before .before .before .before .before .before .before .before .before .before .before .before .before .before .before .before .before .before .before .before .before .before .before .before .before .before .before .before .pre .1) (headed (c .before .before .before .before .before .before .before .before .before .before .before .before .before .before .before .before .before .before .before .before .before .before .before .before .before .before .before .before .before .pre .1) (c .before .before .before .before .before .before .before .before .before .before .before .before .before .before .before .before .before .before .before .before .before .r .given .1) (c .before .before .before .before .before .before .before .before .before .before .before .before .before .before .before .before .before .before .before .before .before .before .before .before .condition .ensures) (c .before .before .before .before .before .before .before .before .before .before .before .before .before .before .before .before .before .s .given .1) (c .before .before .before .before .before .before .before .before .before .before .before .before .before .before .before .before .before .before .before .expect .ensures)) (c .before .before .before .before .before .before .before .before .before .before .before .before .before .skipped .ensures) (c .before .before .before .before .before .before .before .t .given .1) (c .before .before .before .before .before .before .before .before .before .before .before .before .command .ensures))
+if-command-returns-4 t c = rw (c .with-need .ensures, c .before .larger .ensures, c .before .before .before .put .ensures, toZ-ofZ (if-command-cast-put t (c .before .before .before .before))) (when-read _ _ (c .before .before .before .before .before .before .before .before .before .before .before .before .before .before .before .before .before .before .before .before .before .before .before .before .before .before .before .before .before .pre .1) (if-command-head t (c .before .before .before .before .before .before .before .before .before .before .before .before .before .before .before .before .before)) (c .before .before .before .before .before .before .before .before .before .before .before .before .before .skipped .ensures) (c .before .before .before .before .before .before .before .t .given .1) (c .before .before .before .before .before .before .before .before .before .before .before .before .command .ensures))
 
 nested-if-command-requires : (t : ℕ) → nested-lts.Need-if-command-requires (nested-claims t) (nested-at t) nested.Post
 nested-if-command-requires t c κs = (omega (arith, c .before .before .before .before .before .pre .0), c .before .before .before .before .before .pre .1)
@@ -488,11 +497,15 @@ while-command-returns-2 : (t : ℕ) → while-command-lts.Need-returns-2 (while-
 unfolding Reads
 while-command-returns-2 t c = let g = (rw (c .before .before .before .before .r .given .1) at (c .before .before .before .before .before .before .before .condition .ensures)) in rw (c .enum-told2 .given .1) (no-do _ _ (g .1) (missed _ _ _ _ _ _ (clean-passed _ (g .1) (c .before .before .before .before .before .before .before .before .before .before .before .before .pre .1 .clean)) (rw (c .enum-told2 .given .1) at (c .before .before .expect .ensures))))
 
+-- the condition and DO
+while-command-head : (t : ℕ) (c : while-command-lts.After-s (while-command-claims t) (while-command-at t) while-command.Post) → Headed 3 (now (c .before .before .before .before .before .before .before .before .before .before .before .before .args .text)) (now (c .before .before .before .before .before .before .before .before .before .before .before .before .args .names)) (now (c .before .before .before .before .before .before .before .before .before .before .before .before .args .table)) (c .before .before .before .before .before .before .before .before .before .before .before .before .args .w) (c .before .before .before .before .before .before .before .before .before .before .before .before .args .allow) (c .before .before .before .before .before .before .before .condition .last .1 .1 .0) (c .s .given .0 .0)
+while-command-head t c = headed (c .before .before .before .before .before .before .before .before .before .before .before .before .pre .1) (c .before .before .before .before .r .given .1) (c .before .before .before .before .before .before .before .condition .ensures) (c .s .given .1) (c .before .before .expect .ensures)
+
 while-command-skipped-requires : (t : ℕ) → while-command-lts.Need-skipped-requires (while-command-claims t) (while-command-at t) while-command.Post
-while-command-skipped-requires t c κs = head-small (λ z. omega arith) (c .before .before .before .before .before .before .before .before .before .before .before .before .before .before .before .pre .1) (headed (c .before .before .before .before .before .before .before .before .before .before .before .before .before .before .before .pre .1) (c .before .before .before .before .before .before .before .r .given .1) (c .before .before .before .before .before .before .before .before .before .before .condition .ensures) (c .before .before .before .s .given .1) (c .before .before .before .before .before .expect .ensures))
+while-command-skipped-requires t c κs = head-small (λ z. omega arith) (c .before .before .before .before .before .before .before .before .before .before .before .before .before .before .before .pre .1) (while-command-head t (c .before .before .before))
 
 while-command-command-requires : (t : ℕ) → while-command-lts.Need-command-requires (while-command-claims t) (while-command-at t) while-command.Post
-while-command-command-requires t c κs = (omega (arith, c .before .before .before .before .before .before .before .before .before .before .before .before .before .before .before .before .pre .0), ready-headed (λ z. omega arith) (c .before .before .before .before .before .before .before .before .before .before .before .before .before .before .before .before .pre .1) (headed (c .before .before .before .before .before .before .before .before .before .before .before .before .before .before .before .before .pre .1) (c .before .before .before .before .before .before .before .before .r .given .1) (c .before .before .before .before .before .before .before .before .before .before .before .condition .ensures) (c .before .before .before .before .s .given .1) (c .before .before .before .before .before .before .expect .ensures)) (c .skipped .ensures))
+while-command-command-requires t c κs = (omega (arith, c .before .before .before .before .before .before .before .before .before .before .before .before .before .before .before .before .pre .0), ready-headed (λ z. omega arith) (c .before .before .before .before .before .before .before .before .before .before .before .before .before .before .before .before .pre .1) (while-command-head t (c .before .before .before .before)) (c .skipped .ensures))
 
 while-command-enum-known-t : (t : ℕ) → while-command-lts.Need-enum-known-t (while-command-claims t) (while-command-at t) while-command.Post
 while-command-enum-known-t t c = search needs
@@ -508,13 +521,13 @@ while-command-same-length-6 t c = search needs
 
 while-command-returns-3 : (t : ℕ) → while-command-lts.Need-returns-3 (while-command-claims t) (while-command-at t) while-command.Post
 unfolding Reads one-more
-while-command-returns-3 t c = let b = (headed (c .before .before .before .before .before .before .before .before .before .before .before .before .before .before .before .before .before .before .before .before .before .before .pre .1) (c .before .before .before .before .before .before .before .before .before .before .before .before .before .before .r .given .1) (c .before .before .before .before .before .before .before .before .before .before .before .before .before .before .before .before .before .condition .ensures) (c .before .before .before .before .before .before .before .before .before .before .s .given .1) (c .before .before .before .before .before .before .before .before .before .before .before .before .expect .ensures)) in rw (c .enum-told3 .given .1) (while-leads _ _ (b .passed) (b .next .met) .refuses _ _ (rw (c .before .before .before .before .before .before .skipped .ensures, c .enum-told3 .given .1) at (c .before .before .before .before .before .command .ensures)))
+while-command-returns-3 t c = let b = (while-command-head t (c .before .before .before .before .before .before .before .before .before .before)) in rw (c .enum-told3 .given .1) (while-leads _ _ (b .passed) (b .next .met) .refuses _ _ (rw (c .before .before .before .before .before .before .skipped .ensures, c .enum-told3 .given .1) at (c .before .before .before .before .before .command .ensures)))
 
 while-command-add-put : (t : ℕ) → while-command-lts.Need-add-put (while-command-claims t) (while-command-at t) while-command.Post
-while-command-add-put t c = omega (arith, body-small (λ z. omega arith) (c .before .before .before .before .before .before .before .before .before .before .before .before .before .before .before .before .before .before .before .before .before .before .before .before .before .pre .1) (headed (c .before .before .before .before .before .before .before .before .before .before .before .before .before .before .before .before .before .before .before .before .before .before .before .before .before .pre .1) (c .before .before .before .before .before .before .before .before .before .before .before .before .before .before .before .before .before .r .given .1) (c .before .before .before .before .before .before .before .before .before .before .before .before .before .before .before .before .before .before .before .before .condition .ensures) (c .before .before .before .before .before .before .before .before .before .before .before .before .before .s .given .1) (c .before .before .before .before .before .before .before .before .before .before .before .before .before .before .before .expect .ensures)) _ _ (c .before .before .before .before .before .before .before .before .before .skipped .ensures) (c .before .before .before .t .given .1) (c .before .before .before .before .before .before .before .before .command .ensures))
+while-command-add-put t c = omega (arith, body-small (λ z. omega arith) (c .before .before .before .before .before .before .before .before .before .before .before .before .before .before .before .before .before .before .before .before .before .before .before .before .before .pre .1) (while-command-head t (c .before .before .before .before .before .before .before .before .before .before .before .before .before)) _ _ (c .before .before .before .before .before .before .before .before .before .skipped .ensures) (c .before .before .before .t .given .1) (c .before .before .before .before .before .before .before .before .command .ensures))
 
 while-command-cast-put : (t : ℕ) → while-command-lts.Need-cast-put (while-command-claims t) (while-command-at t) while-command.Post
-while-command-cast-put t c = count-fits (omega (arith, body-small (λ z. omega arith) (c .before .before .before .before .before .before .before .before .before .before .before .before .before .before .before .before .before .before .before .before .before .before .before .before .before .pre .1) (headed (c .before .before .before .before .before .before .before .before .before .before .before .before .before .before .before .before .before .before .before .before .before .before .before .before .before .pre .1) (c .before .before .before .before .before .before .before .before .before .before .before .before .before .before .before .before .before .r .given .1) (c .before .before .before .before .before .before .before .before .before .before .before .before .before .before .before .before .before .before .before .before .condition .ensures) (c .before .before .before .before .before .before .before .before .before .before .before .before .before .s .given .1) (c .before .before .before .before .before .before .before .before .before .before .before .before .before .before .before .expect .ensures)) _ _ (c .before .before .before .before .before .before .before .before .before .skipped .ensures) (c .before .before .before .t .given .1) (c .before .before .before .before .before .before .before .before .command .ensures)))
+while-command-cast-put t c = count-fits (omega (arith, body-small (λ z. omega arith) (c .before .before .before .before .before .before .before .before .before .before .before .before .before .before .before .before .before .before .before .before .before .before .before .before .before .pre .1) (while-command-head t (c .before .before .before .before .before .before .before .before .before .before .before .before .before)) _ _ (c .before .before .before .before .before .before .before .before .before .skipped .ensures) (c .before .before .before .t .given .1) (c .before .before .before .before .before .before .before .before .command .ensures)))
 
 while-command-put-requires : (t : ℕ) → while-command-lts.Need-put-requires (while-command-claims t) (while-command-at t) while-command.Post
 while-command-put-requires t c κs = search needs
@@ -526,7 +539,7 @@ while-command-larger-requires : (t : ℕ) → while-command-lts.Need-larger-requ
 while-command-larger-requires t c κs = search needs
 
 while-command-emitted-requires : (t : ℕ) → while-command-lts.Need-emitted-requires (while-command-claims t) (while-command-at t) while-command.Post
-while-command-emitted-requires t c κs = body-small (λ z. omega arith) (c .before .before .before .before .before .before .before .before .before .before .before .before .before .before .before .before .before .before .before .before .before .before .before .before .before .before .before .before .before .before .pre .1) (headed (c .before .before .before .before .before .before .before .before .before .before .before .before .before .before .before .before .before .before .before .before .before .before .before .before .before .before .before .before .before .before .pre .1) (c .before .before .before .before .before .before .before .before .before .before .before .before .before .before .before .before .before .before .before .before .before .before .r .given .1) (c .before .before .before .before .before .before .before .before .before .before .before .before .before .before .before .before .before .before .before .before .before .before .before .before .before .condition .ensures) (c .before .before .before .before .before .before .before .before .before .before .before .before .before .before .before .before .before .before .s .given .1) (c .before .before .before .before .before .before .before .before .before .before .before .before .before .before .before .before .before .before .before .before .expect .ensures)) _ _ (c .before .before .before .before .before .before .before .before .before .before .before .before .before .before .skipped .ensures) (c .before .before .before .before .before .before .before .before .t .given .1) (c .before .before .before .before .before .before .before .before .before .before .before .before .before .command .ensures)
+while-command-emitted-requires t c κs = body-small (λ z. omega arith) (c .before .before .before .before .before .before .before .before .before .before .before .before .before .before .before .before .before .before .before .before .before .before .before .before .before .before .before .before .before .before .pre .1) (while-command-head t (c .before .before .before .before .before .before .before .before .before .before .before .before .before .before .before .before .before .before)) _ _ (c .before .before .before .before .before .before .before .before .before .before .before .before .before .before .skipped .ensures) (c .before .before .before .before .before .before .before .before .t .given .1) (c .before .before .before .before .before .before .before .before .before .before .before .before .before .command .ensures)
 
 while-command-same-length-7 : (t : ℕ) → while-command-lts.Need-same-length-7 (while-command-claims t) (while-command-at t) while-command.Post
 while-command-same-length-7 t c = search needs
@@ -535,7 +548,7 @@ while-command-same-length-8 : (t : ℕ) → while-command-lts.Need-same-length-8
 while-command-same-length-8 t c = omega (arith, c .before .emitted .kept .0, c .before .before .before .before .before .before .put .kept .0, c .before .before .before .before .before .before .before .before .before .before .before .before .before .before .before .command .kept .1 .1 .0, c .before .before .before .before .before .before .before .before .before .before .before .before .before .before .before .before .before .before .before .before .before .before .before .before .before .before .before .condition .kept .1 .1 .0)
 
 while-command-returns-4 : (t : ℕ) → while-command-lts.Need-returns-4 (while-command-claims t) (while-command-at t) while-command.Post
-while-command-returns-4 t c = rw (c .before .emitted .ensures .0, c .before .emitted .ensures .1, c .before .before .larger .ensures, c .before .before .before .before .before .before .put .ensures, toZ-ofZ (while-command-cast-put t (c .before .before .before .before .before .before .before)), toZ-ofZ (while-command-cast-emitted t (c .before .before .before))) (while-read _ _ (c .before .before .before .before .before .before .before .before .before .before .before .before .before .before .before .before .before .before .before .before .before .before .before .before .before .before .before .before .before .before .before .before .pre .1) (headed (c .before .before .before .before .before .before .before .before .before .before .before .before .before .before .before .before .before .before .before .before .before .before .before .before .before .before .before .before .before .before .before .before .pre .1) (c .before .before .before .before .before .before .before .before .before .before .before .before .before .before .before .before .before .before .before .before .before .before .before .before .r .given .1) (c .before .before .before .before .before .before .before .before .before .before .before .before .before .before .before .before .before .before .before .before .before .before .before .before .before .before .before .condition .ensures) (c .before .before .before .before .before .before .before .before .before .before .before .before .before .before .before .before .before .before .before .before .s .given .1) (c .before .before .before .before .before .before .before .before .before .before .before .before .before .before .before .before .before .before .before .before .before .before .expect .ensures)) (c .before .before .before .before .before .before .before .before .before .before .before .before .before .before .before .before .skipped .ensures) (c .before .before .before .before .before .before .before .before .before .before .t .given .1) (c .before .before .before .before .before .before .before .before .before .before .before .before .before .before .before .command .ensures))
+while-command-returns-4 t c = rw (c .before .emitted .ensures .0, c .before .emitted .ensures .1, c .before .before .larger .ensures, c .before .before .before .before .before .before .put .ensures, toZ-ofZ (while-command-cast-put t (c .before .before .before .before .before .before .before)), toZ-ofZ (while-command-cast-emitted t (c .before .before .before))) (while-read _ _ (c .before .before .before .before .before .before .before .before .before .before .before .before .before .before .before .before .before .before .before .before .before .before .before .before .before .before .before .before .before .before .before .before .pre .1) (while-command-head t (c .before .before .before .before .before .before .before .before .before .before .before .before .before .before .before .before .before .before .before .before)) (c .before .before .before .before .before .before .before .before .before .before .before .before .before .before .before .before .skipped .ensures) (c .before .before .before .before .before .before .before .before .before .before .t .given .1) (c .before .before .before .before .before .before .before .before .before .before .before .before .before .before .before .command .ensures))
 
 pub +block+command+if-command+nested+while-command-spec : {M : Type 1} → statement M
 +block+command+if-command+nested+while-command-spec =

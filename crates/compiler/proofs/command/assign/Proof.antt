@@ -15,7 +15,7 @@ use Rattle.compiler.proofs.Commands.{assign-leads, no-becomes}
 use Rattle.compiler.proofs.Found.{found-below}
 use Rattle.compiler.proofs.Lays.{lays-assign, noted-beside, ready-noted, counts-fit}
 use Rattle.compiler.proofs.Reading.{Met, missed, after-met}
-use Rattle.compiler.proofs.Expected.{expected, ready-expected}
+use Rattle.compiler.proofs.Expected.{Expected, expected, ready-expected}
 use Rattle.compiler.proofs.Stores.{count-fits}
 use Rattle.compiler.specs.declared.walk.Walk.{Walk}
 use Rattle.compiler.proofs.command.assign.Statement.{statement}
@@ -34,19 +34,22 @@ returns : tie.Need-returns
 unfolding Reads
 returns c = rw (c .enum-told .given .1) (no-becomes _ _ (missed _ _ _ _ _ _ (c .before .before .before .before .before .pre .clean) (rw (c .enum-told .given .1) at (c .before .before .expect .ensures))))
 
+becomes : (c : tie.After-r) → Expected (now (c .before .before .before .before .before .args .text)) (c .before .before .before .before .before .args .w) 58 (c .r .given .0 .0)
+becomes c = expected _ (c .r .given .1) (c .before .before .before .before .before .pre .clean) (c .before .before .expect .ensures)
+
 look-up-requires : tie.Need-look-up-requires
 unfolding moved-to
-look-up-requires c κs = rw (expected _ (c .before .r .given .1) (c .before .before .before .before .before .before .pre .clean) (c .before .before .before .expect .ensures) .moved) (c .before .before .before .before .before .before .pre .declared)
+look-up-requires c κs = rw (becomes (c .before) .moved) (c .before .before .before .before .before .before .pre .declared)
 
 noted-requires : tie.Need-noted-requires
 noted-requires c κs = search needs
 
 -- the walk with which the Expression is read is after `:=`
 to-noted : (c : tie.After-noted) → Met (now (c .before .before .before .before .before .before .before .before .before .args .text)) (c .before .before .before .before .before .before .before .before .before .args .w .at) 58 (c .noted .result .at)
-to-noted c = rw (c .noted .ensures, noted-beside _ _ _ .at) (expected _ (c .before .before .before .before .r .given .1) (c .before .before .before .before .before .before .before .before .before .pre .clean) (c .before .before .before .before .before .before .expect .ensures) .met)
+to-noted c = rw (c .noted .ensures, noted-beside _ _ _ .at) (becomes (c .before .before .before .before) .met)
 
 expression-requires : tie.Need-expression-requires
-expression-requires c κs = rw (c .noted .ensures) (ready-noted (ready-expected (c .before .before .before .before .before .before .before .before .before .pre) (λ h. omega arith) (expected _ (c .before .before .before .before .r .given .1) (c .before .before .before .before .before .before .before .before .before .pre .clean) (c .before .before .before .before .before .before .expect .ensures))) _ _)
+expression-requires c κs = rw (c .noted .ensures) (ready-noted (ready-expected (c .before .before .before .before .before .before .before .before .before .pre) (λ h. omega arith) (becomes (c .before .before .before .before))) _ _)
 
 enum-known-s : tie.Need-enum-known-s
 enum-known-s c = search needs
@@ -68,7 +71,7 @@ fits : (c : tie.After-cell-of) → SFits w32 (pos (c .cell-of .result))
 unfolding moved-to
 fits c =
     count-fits
-    (omega (arith, c .cell-of .ensures, ap cell-number (c .before .before .before .before .before .before .before .before .look-up .ensures), found-below (now (c .before .before .before .before .before .before .before .before .before .before .before .before .before .before .before .args .text)) (now (c .before .before .before .before .before .before .before .before .before .before .before .before .before .before .before .args .names)) (word-at (now (c .before .before .before .before .before .before .before .before .before .before .before .before .before .before .before .args .text)) (c .before .before .before .before .before .before .before .before .before .before .before .before .before .before .before .args .place)) (c .before .before .before .before .before .before .before .before .before .before .r .given .0 .0 .declared), ap (λ (z : Walk). z .declared) (expected _ (c .before .before .before .before .before .before .before .before .before .before .r .given .1) (c .before .before .before .before .before .before .before .before .before .before .before .before .before .before .before .pre .clean) (c .before .before .before .before .before .before .before .before .before .before .before .before .expect .ensures) .moved), c .before .before .before .before .before .before .before .before .before .before .before .before .before .before .before .pre .declared, c .before .before .before .before .before .before .before .before .before .before .before .before .before .before .before .pre .room))
+    (omega (arith, c .cell-of .ensures, ap cell-number (c .before .before .before .before .before .before .before .before .look-up .ensures), found-below (now (c .before .before .before .before .before .before .before .before .before .before .before .before .before .before .before .args .text)) (now (c .before .before .before .before .before .before .before .before .before .before .before .before .before .before .before .args .names)) (word-at (now (c .before .before .before .before .before .before .before .before .before .before .before .before .before .before .before .args .text)) (c .before .before .before .before .before .before .before .before .before .before .before .before .before .before .before .args .place)) (c .before .before .before .before .before .before .before .before .before .before .r .given .0 .0 .declared), ap (λ (z : Walk). z .declared) (becomes (c .before .before .before .before .before .before .before .before .before .before) .moved), c .before .before .before .before .before .before .before .before .before .before .before .before .before .before .before .pre .declared, c .before .before .before .before .before .before .before .before .before .before .before .before .before .before .before .pre .room))
 
 cast-emitted : tie.Need-cast-emitted
 cast-emitted c = fits (c .before)
@@ -76,14 +79,14 @@ cast-emitted c = fits (c .before)
 emitted-requires : tie.Need-emitted-requires
 unfolding Reads
 emitted-requires c κs = let g = rw (c .before .before .before .before .before .before .before .noted .ensures, c .before .before .before .s .given .1) at (c .before .before .before .before .before .before .expression .ensures) in
-    counts-fit (ready-noted (ready-expected (c .before .before .before .before .before .before .before .before .before .before .before .before .before .before .before .before .pre) (λ h. omega arith) (expected _ (c .before .before .before .before .before .before .before .before .before .before .before .r .given .1) (c .before .before .before .before .before .before .before .before .before .before .before .before .before .before .before .before .pre .clean) (c .before .before .before .before .before .before .before .before .before .before .before .before .before .expect .ensures))) _ _) (g .2) (g .1 .inside) .0
+    counts-fit (ready-noted (ready-expected (c .before .before .before .before .before .before .before .before .before .before .before .before .before .before .before .before .pre) (λ h. omega arith) (becomes (c .before .before .before .before .before .before .before .before .before .before .before))) _ _) (g .2) (g .1 .inside) .0
 
 same-length-2 : tie.Need-same-length-2
 same-length-2 c = search needs
 
 returns-3 : tie.Need-returns-3
 unfolding Reads one-more moved-to
-returns-3 c = let x = expected _ (c .before .before .before .before .before .before .before .before .before .before .before .before .before .r .given .1) (c .before .before .before .before .before .before .before .before .before .before .before .before .before .before .before .before .before .before .pre .clean) (c .before .before .before .before .before .before .before .before .before .before .before .before .before .before .before .expect .ensures) in
+returns-3 c = let x = becomes (c .before .before .before .before .before .before .before .before .before .before .before .before .before) in
     let g = rw (c .before .before .before .before .before .before .before .before .before .noted .ensures, c .before .before .before .before .before .before .before .before .before .before .before .look-up .ensures, x .moved, c .before .before .before .before .before .s .given .1) at (c .before .before .before .before .before .before .before .before .expression .ensures) in
     rw (c .before .emitted .ensures .0, c .before .emitted .ensures .1, toZ-ofZ (fits (c .before .before .before)), c .before .before .before .cell-of .ensures, c .before .before .before .before .before .before .before .before .before .before .before .look-up .ensures, x .moved)
     (assign (name-at (now (c .before .before .before .before .before .before .before .before .before .before .before .before .before .before .before .before .before .before .args .text)) (c .before .before .before .before .before .before .before .before .before .before .before .before .before .before .before .before .before .before .args .place)) (g .0), assign-leads _ _ (rw (c .before .before .before .before .before .before .before .before .before .noted .ensures, c .before .before .before .before .before .before .before .before .before .before .before .look-up .ensures, x .moved) at (to-noted (c .before .before .before .before .before .before .before .before .before))) .passes (g .0) (g .1), lays-assign (c .before .before .before .before .before .before .before .before .before .before .before .before .before .before .before .before .before .before .args .place) (c .before .before .before .before .before .before .before .before .before .before .before .before .before .r .given .0 .0 .at) (omega (arith, after-met _ (c .before .before .before .before .before .before .before .before .before .before .before .before .before .before .before .before .before .before .pre .clean) (x .met) (λ h. omega arith) .later)) (g .2))
