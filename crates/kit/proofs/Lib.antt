@@ -1,2 +1,4 @@
-pub mod Strings
+pub mod Comes
 pub mod Faithful
+pub mod Sends
+pub mod Strings
