@@ -29,7 +29,7 @@ use Rattle.compiler.specs.Compiled.{Accepted, short-enough, fitting, lexed, lai
 use Rattle.kit.proofs.Strings.{program-strings}
 
 -- what was given was given by both parts
-given-by : {A B : Type 0} (a : Answer A) (f : A → Answer B) (b : B) → pass a f ≡ given b → (x : A) × (a ≡ given x) × (f x ≡ given b)
+pub given-by : {A B : Type 0} (a : Answer A) (f : A → Answer B) (b : B) → pass a f ≡ given b → (x : A) × (a ≡ given x) × (f x ≡ given b)
 unfolding pass
 given-by (given x) f b e = (x, refl, e)
 given-by (refused n p) f b e = let z : _≡_ {A = ℕ} 0 1 = cc in absurd (omega arith)
