@@ -1,4 +1,4 @@
-/* The machine of the language O, for C. The functions are proved; `rt staticlib export` writes the archive that has them. */
+/* The compiler and the machine of the language O, for C. The functions are proved; `rt staticlib export` writes the archive that has them. */
 #ifndef O_H
 #define O_H
 
@@ -8,6 +8,20 @@
 #ifdef __cplusplus
 extern "C" {
 #endif
+
+/*
+ * A text compiled into a code table.
+ *
+ * Each array passes as a pointer and its number of elements. A pointer is not null, also where the number is 0, and is
+ * valid for that many elements. `table` and `report` are written: neither may overlap anything else lent.
+ *
+ * Afterwards report[0] is 0 if the text was accepted, or the number of the refusal, 1 to 8; report[1] the refusal's
+ * place; report[2] the instructions, each of two numbers of the table; report[3] the cells; report[4] the stack need.
+ * What the answer does not report is 0. The table is the code and then zeros, and all zeros on a refusal.
+ */
+void o_compile(const uint8_t *text, size_t text_length,
+               int32_t *table, size_t table_length,
+               uint64_t report[5]);
 
 /*
  * A run of a code table over a text and readings, within a budget of steps.

@@ -1,7 +1,27 @@
 // What C and Rust call. A slice passes as a pointer and a length (include/o.h).
+ghost use lib.ListN.{length};
 ghost use Rattle.machine.specs.Machine.{whole-run};
 ghost use Rattle.machine.specs.Promise.{lends};
-ghost use Rattle.export.specs.Reports.{RanInto};
+ghost use Rattle.export.specs.Reports.{RanInto, By-bytes, By-sentences};
+use compiler::Answer;
+use limits::Limits;
+
+// A text compiled into the table; the report is its number, place, instructions, cells and stack need, where a refusal has only the first two.
+#[no_mangle]
+pub extern "C" fn o_compile(text: &[u8], table: &mut [i32], report: &mut [u64; 5])
+    ensures bytes { λ _. do ⌜ By-bytes (← ⟦Limits::TEXT⟧ .entry) (record { word = (← ⟦Limits::WORD⟧ .entry); string = (← ⟦Limits::STRING⟧ .entry); literal = (← ⟦Limits::LITERAL⟧ .entry) }) (now (text .entry)) (length (now (table .entry))) (now (report .exit)) (now (table .exit)) ⌝ }
+    ensures sentences { λ _. do ⌜ By-sentences (← ⟦Limits::NESTING⟧ .entry) (← ⟦Limits::DECLARATIONS⟧ .entry) (← ⟦Limits::INSTRUCTIONS⟧ .entry) (now (text .entry)) (length (now (table .entry))) (now (report .exit)) (now (table .exit)) ⌝ }
+{
+    let a = compiler::compile(text, table);
+    match a {
+        Answer::Refused(n, p) => {
+            *report = [n as u64, p as u64, 0, 0, 0];
+        }
+        Answer::Accepted(instructions, cells, need) => {
+            *report = [0, 0, instructions as u64, cells as u64, need as u64];
+        }
+    }
+}
 
 // A run of the table; the report is its ending, steps, readings used and output length.
 #[no_mangle]

@@ -1,6 +1,6 @@
 -- Every string of a text's Program stands in the text: between its place and the next quote are its bytes.
 use mathlib.Core.Path.{_≡_, refl, sym, ap, _∙_, subst}
-use mathlib.Core.List.{List, [], _∷_, _++_, map}
+use mathlib.Core.List.{List, [], _∷_, _++_}
 use mathlib.Core.Bool.{Bool, true, false, cond}
 use Prim.Native.Nat.{ℕ, zero, suc, _+_}
 use native.Mathlib.Omega.{arith}
@@ -10,7 +10,7 @@ use lib.Seq.{drop-drop}
 use borrow.Author.Tests.{leb-false, lt-ltb}
 use Rattle.lexeme.specs.Answers.{Answer, given, refused, pass}
 use Rattle.lexeme.specs.Bytes.{letter-or-digit, no-quote, separator, run, all, letter, digit, same}
-use Rattle.lexeme.specs.Lexemes.{Name, Quoted, Lexeme, lit, name, class, string, sign, mul, rel, fixed, end, Placed, Next, lexeme, nothing, found, Keyword, keywords, capital-word, starts-small, value, Sizes, letter-word, digit-word, word, string-at, Symbol, symbols, symbol, colon, here, next, lexemes-from, lexemes}
+use Rattle.lexeme.specs.Lexemes.{Name, Lexeme, lit, name, class, string, sign, mul, rel, fixed, end, Placed, Next, lexeme, nothing, found, Keyword, keywords, capital-word, starts-small, value, Sizes, letter-word, digit-word, word, string-at, Symbol, symbols, symbol, colon, here, next, lexemes-from, lexemes}
 use Rattle.sentence.specs.Sentences.{Kind, Sen, command, spell, program, literal, variable, bracket, first, multiply, unsigned, signed, add, negated, compare, print, print-line, print-string, declare, input, assign, error, while, when, block, single, then}
 use Rattle.sentence.specs.Grammar.{Whole, whats}
 use Rattle.sentence.specs.Parts.{Each}
