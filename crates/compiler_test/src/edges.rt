@@ -1,6 +1,7 @@
 // Texts at the limits, put together from pieces.
 ghost use Prim.Native.Nat.{_≤_};
 ghost use lib.ListN.{length};
+use crate::listings;
 use compiler::Answer;
 use libc::STDOUT_FILENO;
 
@@ -11,11 +12,9 @@ fn add(text: &mut [u8], at: usize, piece: &[u8]) -> usize
 {
     let mut e = at;
     let mut i = 0;
-    while i < piece.len() {
-        if e < text.len() {
-            text[e] = piece[i];
-            e += 1;
-        }
+    while i < piece.len() && e < text.len() {
+        text[e] = piece[i];
+        e += 1;
         i += 1;
     }
     e
@@ -34,16 +33,14 @@ fn many(text: &mut [u8], at: usize, piece: &[u8], n: usize) -> usize
     e
 }
 
-// The answer to a text, with so many numbers lent.
+// The answer to a text, in the table that is lent.
 fn judge(text: &[u8], table: &mut [i32]) {
     let a = compiler::compile(text, table);
     match a {
         Answer::Accepted(n, cells, need) => lines::accepted(STDOUT_FILENO, n, cells, need),
         Answer::Refused(n, p) => {
             lines::refused(STDOUT_FILENO, n, p);
-            if 0 < crate::listings::dirty(table, 0) {
-                io::write_all(STDOUT_FILENO, b"the table is not clean\n");
-            }
+            listings::left(table, 0);
         }
     }
 }
@@ -109,17 +106,24 @@ fn lengths() {
     nested(b"DO INT ", b"n", 33, b"", b"");
 }
 
+// The answer with only so many numbers lent.
+fn short(text: &[u8], numbers: usize) {
+    let mut table = [7i32; 11];
+    if numbers <= table.len() {
+        judge(text, &mut table[..numbers]);
+    }
+}
+
 // One text and tables of several lengths: 5 pairs are wanted.
 fn tables() {
     io::write_all(STDOUT_FILENO, b"tables of 11, 10, 9, 8, 1 and 0 numbers\n");
-    let mut table = [7i32; 11];
-    judge(b"DO PRINTI 2 - 5", &mut table);
-    judge(b"DO PRINTI 2 - 5", &mut table[..10]);
-    judge(b"DO PRINTI 2 - 5", &mut table[..9]);
-    judge(b"DO PRINTI 2 - 5", &mut table[..8]);
-    judge(b"DO PRINTI 2 - 5", &mut table[..1]);
-    judge(b"DO PRINTI 2 - 5", &mut table[..0]);
-    judge(b"DO PRINTI n", &mut table[..0]);
+    short(b"DO PRINTI 2 - 5", 11);
+    short(b"DO PRINTI 2 - 5", 10);
+    short(b"DO PRINTI 2 - 5", 9);
+    short(b"DO PRINTI 2 - 5", 8);
+    short(b"DO PRINTI 2 - 5", 1);
+    short(b"DO PRINTI 2 - 5", 0);
+    short(b"DO PRINTI n", 0);
 }
 
 pub fn all() {

@@ -2,21 +2,18 @@
 use compiler::Answer;
 use libc::STDOUT_FILENO;
 
-// How many numbers of the table are not 0 from a place on.
-pub fn dirty(table: &[i32], from: usize) -> usize {
-    let mut n = 0;
-    let mut i = from;
-    while i < table.len() {
-        if table[i] != 0 && n < 1000000 {
-            n += 1;
+fn is_clean(table: &[i32], from: usize) -> bool {
+    for i in from..table.len() {
+        if table[i] != 0 {
+            return false;
         }
-        i += 1;
     }
-    n
+    true
 }
 
-fn left(table: &[i32], from: usize) {
-    if 0 < dirty(table, from) {
+// Says so where a number of the table is not 0 from a place on.
+pub fn left(table: &[i32], from: usize) {
+    if !is_clean(table, from) {
         io::write_all(STDOUT_FILENO, b"the table is not clean\n");
     }
 }
