@@ -60,7 +60,11 @@ fn take_readings(fd: i32, numbers: &mut [i32]) -> usize
         more = c.more;
         turns -= 1;
     }
-    readings::finish(reader, numbers)
+    let count = readings::finish(reader, numbers);
+    if numbers.len() < count {
+        return numbers.len();
+    }
+    count
 }
 
 pub enum Lesson {
