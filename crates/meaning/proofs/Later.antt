@@ -16,7 +16,7 @@ use Rattle.machine.specs.Endings.{normal, budget-spent, stack-full, bad-code, n
 use Rattle.machine.specs.Numbers.{Two-sided, plus, minus, times, divide, equals, smaller, greater, Result, value, ends, in-range, is-false, calculate, negation, decimal}
 use Rattle.machine.specs.Machine.{Outside, reading, one-used, printed}
 use Rattle.meaning.specs.Layout.{of-mul, of-sign, of-rel}
-use Rattle.meaning.specs.Meaning.{Store, Outcome, done, ended, Act, after, _>>=_, _>>_, give, end-with, unit, result, value-of, set, signed-value, rounds, take, write, mean, declarations, program, meaning, start}
+use Rattle.meaning.specs.Meaning.{Store, Outcome, done, ended, Act, after, _>>=_, _>>_, give, end-with, unit, result, value-of, assigned, signed-value, rounds, next-reading, write, mean, declarations, program, meaning, start}
 
 -- an ending that sentences have by themselves
 pub record Own (e : ℕ) : Type 0 where
@@ -82,9 +82,9 @@ module _ {N : ℕ} where
   unfolding value-of
   good-value-of c = record { good = λ n k s l. both (le-refl n) }
 
-  good-set : (c : ℕ) (v : ℤ) → Good N (set c v)
-  unfolding set
-  good-set c v = record { good = λ n k s l. both (le-refl n) }
+  good-assigned : (c : ℕ) (v : ℤ) → Good N (assigned c v)
+  unfolding assigned
+  good-assigned c v = record { good = λ n k s l. both (le-refl n) }
 
   good-choice : {A : Type 0} (b : Bool) {x y : Act A} → Good N x → Good N y → Good {A = A} N (elim b [ true ↦ x | false ↦ y ])
   good-choice true p q = p
@@ -151,9 +151,9 @@ module _ {N : ℕ} where
   good-signed L.plus v = good-give v
   good-signed L.minus v = good-unit (good-result _ (own-in-range _))
 
-  good-take : (readings : List ℤ) (room : ℕ) → Good N (take readings room)
-  unfolding take end-with
-  good-take readings room = record { good = λ n k s l. by n k s (reading readings (s .outside)) }
+  good-next-reading : (readings : List ℤ) (room : ℕ) → Good N (next-reading readings room)
+  unfolding next-reading end-with
+  good-next-reading readings room = record { good = λ n k s l. by n k s (reading readings (s .outside)) }
     where
       got : Option ℤ → Act ℤ
       got q n s = elim q [ none ↦ end-with no-reading-left n s | some v ↦ done v n (record { variables = s .variables; outside = one-used (s .outside) }) ]
@@ -249,9 +249,9 @@ module _ (readings : List ℤ) (room : ℕ) where
   good-mean (print e) N = good-bind (good-mean e N) (λ v. good-unit (good-write readings room (decimal v)))
   good-mean (print-line q) N = good-unit (good-write readings room _)
   good-mean (print-string q) N = good-unit (good-write readings room _)
-  good-mean (declare c) N = good-unit (good-unit (good-set c (pos 0)))
-  good-mean (input c) N = good-unit (good-bind (good-take readings room) (λ v. good-unit (good-set c v)))
-  good-mean (assign c e) N = good-bind (good-mean e N) (λ v. good-unit (good-set c v))
+  good-mean (declare c) N = good-unit (good-unit (good-assigned c (pos 0)))
+  good-mean (input c) N = good-unit (good-bind (good-next-reading readings room) (λ v. good-unit (good-assigned c v)))
+  good-mean (assign c e) N = good-bind (good-mean e N) (λ v. good-unit (good-assigned c v))
   good-mean error N = good-unit (good-end (omega arith))
   good-mean (while c m) N = good-while (good-mean c) (good-mean m) N
   good-mean (when c m) N = good-bind (good-mean c N) (λ v. good-unit (good-choice (is-false v) (good-give tt) (good-mean m N)))

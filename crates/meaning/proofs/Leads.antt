@@ -13,7 +13,7 @@ use Rattle.machine.specs.Endings.{no-reading-left, print-does-not-fit}
 use Rattle.machine.specs.Numbers.{Result, value, ends, is-false, negation, decimal}
 use Rattle.machine.specs.Instructions.{Instruction, halt, push-int, load-stack, store-stack, jump, jump-if-false, not, read, print-int, print-str, print-str-ln}
 use Rattle.machine.specs.Machine.{Lent, Outside, string-from, reading, one-used, printed, Step, go, stop, pushed, resulting, pairs, jumped, taken, written, quoted, does, decoded, fetched, step, End, run}
-use Rattle.meaning.specs.Meaning.{Store, Outcome, done, ended, Act, after, _>>=_, _>>_, give, end-with, unit, result, value-of, set, take, write}
+use Rattle.meaning.specs.Meaning.{Store, Outcome, done, ended, Act, after, _>>=_, _>>_, give, end-with, unit, result, value-of, assigned, next-reading, write}
 use Rattle.meaning.proofs.Cells.{cells, deep, peek-below, poke-below}
 
 -- what comes after an outcome
@@ -100,8 +100,8 @@ module _ {lent : Lent} {d : ℕ} where
   unfolding does pushed continue value-of finish
   loads {ts} j h r = record { goes = λ m s K l k. rw (deep d ts (s .variables), lt-ltb j (length ts + d) (omega arith), lt-ltb (length ts + d) (lent .cells) r, peek-below j (s .variables) d ts h) (k _ m s (le-refl m)) }
 
-  pub stores : {N a : ℕ} {ts : List ℤ} (k : ℕ) (v : ℤ) → k < d → Does lent d N (store-stack k) a (v ∷ ts) (set k v) (suc a) (λ _. ts)
-  unfolding does continue set finish
+  pub stores : {N a : ℕ} {ts : List ℤ} (k : ℕ) (v : ℤ) → k < d → Does lent d N (store-stack k) a (v ∷ ts) (assigned k v) (suc a) (λ _. ts)
+  unfolding does continue assigned finish
   stores {ts} j v h = record { goes = λ m s K l k. rw (deep d ts (s .variables), lt-ltb j (length ts + d) (omega arith), poke-below j (s .variables) v d ts h) (k tt m _ (le-refl m)) }
 
   pub results : {N : ℕ} {i : Instruction} {a : ℕ} {us : List ℤ} (ts : List ℤ) (r : Result) → ((g : ℕ → ℤ) (o : Outside) → does lent i a (us ++ cells d g) o ≡ resulting lent a r (ts ++ cells d g) o) → Does lent d N i a us (result r) (suc a) (λ v. v ∷ ts)
@@ -135,8 +135,8 @@ module _ {lent : Lent} {d : ℕ} where
   pub prints-line : {N a : ℕ} {ts : List ℤ} (p : ℕ) (bs : List ℕ) → string-from (lent .text) p ≡ some bs → Does lent d N (print-str-ln p) a ts (write (lent .readings) (lent .room) (bs ++ 10 ∷ [])) (suc a) (λ _. ts)
   prints-line {ts} p bs e = writes ts (bs ++ 10 ∷ []) (λ g o. unfold does quoted in rw (e, quoted))
 
-  pub reads : {B : Type 0} {N a c : ℕ} {ts : List ℤ} {f : ℤ → Act B} {out : B → List ℤ} → length ts + d < lent .cells → ((v : ℤ) → Leads lent d N (suc a) (v ∷ ts) (f v) c out) → Does lent d N read a ts (take (lent .readings) (lent .room) >>= f) c out
-  unfolding does taken continue take end-with finish _>>=_ after
+  pub reads : {B : Type 0} {N a c : ℕ} {ts : List ℤ} {f : ℤ → Act B} {out : B → List ℤ} → length ts + d < lent .cells → ((v : ℤ) → Leads lent d N (suc a) (v ∷ ts) (f v) c out) → Does lent d N read a ts (next-reading (lent .readings) (lent .room) >>= f) c out
+  unfolding does taken continue next-reading end-with finish _>>=_ after
   reads {B} {N} {a} {c} {ts} {f} {out} r p = record { goes = λ m s K l k. rw (deep d ts (s .variables), lt-ltb (length ts + d) (lent .cells) r) (by m s K l k (reading (lent .readings) (s .outside))) }
     where
       by : (m : ℕ) (s : Store) (K : B → ℕ → Store → End) → m < N → ((v : B) (l : ℕ) (t : Store) → l ≤ m → from lent d l c (out v) t ≡ K v l t) → (q : Option ℤ) →

@@ -62,8 +62,8 @@ result (ends e) = end-with e
 unfoldable pub value-of : ℕ → Act ℤ
 value-of k = λ n s. done (s .variables k) n s
 
-unfoldable pub set : ℕ → ℤ → Act (Unit {0})
-set k v = λ n s. done tt n (record { variables = λ j. cond (eqb j k) v (s .variables j); outside = s .outside })
+unfoldable pub assigned : ℕ → ℤ → Act (Unit {0})
+assigned k v = λ n s. done tt n (record { variables = λ j. cond (eqb j k) v (s .variables j); outside = s .outside })
 
 -- a construct's value; a Command has none
 abbrev pub Value : Kind → Type 0
@@ -88,9 +88,9 @@ rounds c m (suc fuel) = do
   elim (is-false v) [ true ↦ give tt | false ↦ (do m; unit; rounds c m fuel) ]
 
 module _ (readings : List ℤ) (room : ℕ) where
-  -- the next reading
-  unfoldable pub take : Act ℤ
-  take = λ n s. elim (reading readings (s .outside)) [
+  -- the next reading, which is then used
+  unfoldable pub next-reading : Act ℤ
+  next-reading = λ n s. elim (reading readings (s .outside)) [
     | none ↦ end-with no-reading-left n s
     | some v ↦ done v n (record { variables = s .variables; outside = one-used (s .outside) })
   ]
@@ -115,9 +115,9 @@ module _ (readings : List ℤ) (room : ℕ) where
   mean (print e) = do v ← mean e; unit; write (decimal v)
   mean (print-line q) = do unit; write (q .inside ++ 10 ∷ [])
   mean (print-string q) = do unit; write (q .inside)
-  mean (declare k) = do unit; unit; set k (pos 0)
-  mean (input k) = do unit; v ← take; unit; set k v
-  mean (assign k e) = do v ← mean e; unit; set k v
+  mean (declare k) = do unit; unit; assigned k (pos 0)
+  mean (input k) = do unit; v ← next-reading; unit; assigned k v
+  mean (assign k e) = do v ← mean e; unit; assigned k v
   mean error = do unit; end-with stopped-by-ERROR
   mean (while c m) = λ n s. rounds (mean c) (mean m) (suc n) n s
   mean (when c m) = do
