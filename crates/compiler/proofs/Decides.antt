@@ -2,7 +2,7 @@
 use mathlib.Core.Path.{_≡_, refl, sym, ap, _∙_}
 use mathlib.Core.List.{List, [], _∷_, _++_}
 use mathlib.Core.Bool.{true, false, or-true}
-use mathlib.Core.Logic.{_⊎_, inl, inr, ⊎-elim}
+use mathlib.Core.Logic.{_⊎_, inl, inr}
 use Prim.Native.Nat.{ℕ, _+_, _*_, _/_, _≤_, _<_}
 use native.Mathlib.Nat.{sub-zero, zero-add}
 use native.Mathlib.Omega.{arith}
@@ -12,6 +12,7 @@ use lib.IntN.{ℤ, pos}
 use lib.ListN.{length, replicate, length-replicate}
 use types.Run.{OneOf, miss}
 use denote.Enum.Declared.{tagOf}
+use Rattle.limits.specs.Limits.{Limits}
 use Rattle.lexeme.specs.Answers as A
 use Rattle.lexeme.specs.Answers.{given, refused, pass}
 use Rattle.lexeme.specs.Lexemes.{Name, Placed, Sizes, lexemes}
@@ -30,18 +31,16 @@ use Rattle.compiler.specs.declared.walk.Read.{Read}
 use Rattle.compiler.specs.declared.walk.Read.the-variants as read
 use Rattle.compiler.specs.declared.Answer.{Answer}
 use Rattle.compiler.specs.declared.Answer.the-variants.{Accepted, Refused}
-use Rattle.compiler.specs.Answers.{reported, Says, Past, Decided, By-bytes, By-sentences, Written}
+use Rattle.compiler.specs.Answers.{reported, Says, By-sentences, Written}
 use Rattle.compiler.specs.Compiled as C
-use Rattle.compiler.specs.Compiled.{short-enough, code-of-text, fitting, lexed, laid-out, report, filled, table-after}
+use Rattle.compiler.specs.Compiled.{short-enough, code-of-text, fitting, lexed, laid-out, compiled, report, filled, table-after}
 use Rattle.compiler.specs.Lexing.{Lexes, Clean}
 use Rattle.compiler.specs.Scopes.{declarations, stand}
 use Rattle.compiler.specs.Tables.{put, emit, opening}
 use Rattle.compiler.specs.Walks.{named, scope-of, Laid, spare, Lays, Set-out, start-at, Reads-program}
 use Rattle.compiler.proofs.Emits.{emit-append, emit-code, emit-one}
 use Rattle.compiler.proofs.Filled.{filled-by-code}
-use Rattle.compiler.proofs.Lays.{never, fault-0-6-7}
-use Rattle.compiler.proofs.Reading.{read-refuses}
-use Rattle.compiler.proofs.Refusals.{lexemes-refuse}
+use Rattle.compiler.proofs.Lays.{never}
 
 -- ---- the Program
 
@@ -64,10 +63,6 @@ module _ (limit : ℕ) (text names : List ℕ) (table : List ℤ) (place : ℕ) 
   not-read : {n p : ℕ} → r ≡ read.Refused n p → (sizes : Sizes) (ls : List Placed) → lexemes sizes text ≡ given ls → read limit ls ≡ refused n p
   unfolding Reads-program Lexes lexemes
   not-read {n} {p} is = let e : Reads-program limit text names table place (read.Refused n p) names′ table′ = rw is at d in e
-
-stands : (text names : List ℕ) (place : ℕ) → stand text names (start-at place) ≡ given nothing-declared
-unfolding stand declarations
-stands text names place = refl
 
 -- a tree that was named with no fault, and the walk's counts of its code
 record Settled (limit : ℕ) (tree : Sen Name command) (place : ℕ) (v : Walk) : Type 0 where
@@ -133,10 +128,6 @@ says-refused : {a : A.Answer C.Accepted} {k p : ℕ} (n : ℕ) (table : List ℤ
 unfolding reported report table-after filled
 says-refused n table z h = rw h (record { answer = refl; numbers = rw (z, sub-zero n) })
 
-past : (r : Answer) (n : ℕ) → reported r .number ≡ n → (n ≡ 0) ⊎ (3 < n) → Past r
-past r n e (inl h) = record { not-1 = λ z. omega arith; not-2 = λ z. omega arith; not-3 = λ z. omega arith }
-past r n e (inr h) = record { not-1 = λ z. omega arith; not-2 = λ z. omega arith; not-3 = λ z. omega arith }
-
 -- a Command over cells, whose code has m instructions
 module _ (instructions n cells m : ℕ) (y : Sen ℕ command) (long : length (program-code cells y) ≡ m) where
   too-large : (instructions < m) ⊎ (n / 2 < m) → fitting instructions (n / 2) (record { command = y; cells = cells }) ≡ refused 8 0
@@ -153,39 +144,20 @@ module _ (instructions n cells m : ℕ) (y : Sen ℕ command) (long : length (pr
     unfolding reported report table-after code-of-text program-need
     says-accepted table table′ z e w = rw (e ∙ fits) (record { answer = rw long; numbers = w ∙ rw z (filled-by-code n (program-code cells y) (rw long j)) })
 
-abbrev Answered : ℕ → ℕ → ℕ → List ℕ → ℕ → Answer → List ℤ → Type 0
-Answered nesting declared instructions text n a t = Past a × By-sentences nesting declared instructions text n a t
-
 module _ (nesting instructions : ℕ) (text names : List ℕ) (none : List ℤ) {r : Read} (names′ : List ℕ) (none′ : List ℤ) (d : Reads-program nesting text names none 0 r names′ none′) (n : ℕ) (table : List ℤ) (zeros : table ≡ replicate n (pos 0)) where
   -- by 4 or 5
-  pub by-reading : (sizes : Sizes) → Clean sizes text 0 → {k p : ℕ} → r ≡ read.Refused k p → Answered nesting (length names) instructions text n (Refused k p) table
-  unfolding By-sentences laid-out pass reported Clean Lexes lexemes
-  by-reading sizes clean {k} {p} is =
-      let e = not-read nesting text names none 0 names′ none′ d is in (
-        past (Refused k p) k refl (larger (read-refuses nesting (clean .0) k p (e sizes (clean .0) (clean .1)))),
-        λ most ls lx h. says-refused n table zeros (rw (e most ls lx)),
-      )
-    where
-      larger : {m : ℕ} → (m ≡ 4) ⊎ (m ≡ 5) → (m ≡ 0) ⊎ (3 < m)
-      larger (inl h) = inr (omega arith)
-      larger (inr h) = inr (omega arith)
+  pub by-reading : {k p : ℕ} → r ≡ read.Refused k p → By-sentences nesting (length names) instructions text n (Refused k p) table
+  unfolding By-sentences laid-out pass
+  by-reading is sizes ls lx = says-refused n table zeros (rw (not-read nesting text names none 0 names′ none′ d is sizes ls lx))
 
   module _ {v : Walk} (is : r ≡ read.Done v) where
     it : Ran nesting text names none 0 v names′ none′
     it = ran nesting text names none 0 names′ none′ d is
 
     -- by 6 or 7
-    pub by-naming : (v .fault ≡ 0 → ⊥) → Answered nesting (length names) instructions text n (Refused (v .fault) (v .place)) table
-    unfolding By-sentences laid-out pass reported
-    by-naming f = (
-      past (Refused (v .fault) (v .place)) (v .fault) refl (larger (fault-0-6-7 (stands text names 0) (it .lays))),
-      λ most ls lx h. says-refused n table zeros (rw (it .reads most ls lx, unnamed it f)),
-    )
-      where
-        larger : {m : ℕ} → (m ≡ 0) ⊎ ((m ≡ 6) ⊎ (m ≡ 7)) → (m ≡ 0) ⊎ (3 < m)
-        larger (inl h) = inl h
-        larger (inr (inl h)) = inr (omega arith)
-        larger (inr (inr h)) = inr (omega arith)
+    pub by-naming : (v .fault ≡ 0 → ⊥) → By-sentences nesting (length names) instructions text n (Refused (v .fault) (v .place)) table
+    unfolding By-sentences laid-out pass
+    by-naming f sizes ls lx = says-refused n table zeros (rw (it .reads sizes ls lx, unnamed it f))
 
     module _ (f : v .fault ≡ 0) where
       k : Settled (length names) (it .tree) 0 v
@@ -194,24 +166,18 @@ module _ (nesting instructions : ℕ) (text names : List ℕ) (none : List ℤ) 
       long : length (program-code (v .declared) (k .known .what)) ≡ v .declared + v .code + 1
       long = laid-program (v .declared) (k .known .what) .long ∙ omega (arith, k .size-is)
 
-      to-fit : (most : Sizes) (ls : List Placed) → lexemes most text ≡ given ls → laid-out nesting (length names) instructions ls n ≡ fitting instructions (n / 2) (record { command = k .known .what; cells = v .declared })
+      to-fit : (sizes : Sizes) (ls : List Placed) → lexemes sizes text ≡ given ls → laid-out nesting (length names) instructions ls n ≡ fitting instructions (n / 2) (record { command = k .known .what; cells = v .declared })
       unfolding laid-out pass
-      to-fit most ls lx = rw (it .reads most ls lx, k .are-known) (ap (λ (c : ℕ). fitting instructions (n / 2) (record { command = k .known .what; cells = c })) (k .cells))
+      to-fit sizes ls lx = rw (it .reads sizes ls lx, k .are-known) (ap (λ (c : ℕ). fitting instructions (n / 2) (record { command = k .known .what; cells = c })) (k .cells))
 
       -- by 8
-      pub by-size : (instructions < v .declared + v .code + 1) ⊎ (n / 2 < v .declared + v .code + 1) → Answered nesting (length names) instructions text n (Refused 8 0) table
-      unfolding By-sentences reported
-      by-size h = (
-        past (Refused 8 0) 8 refl (inr (omega arith)),
-        λ most ls lx p. says-refused n table zeros (to-fit most ls lx ∙ too-large instructions n (v .declared) (v .declared + v .code + 1) (k .known .what) long h),
-      )
+      pub by-size : (instructions < v .declared + v .code + 1) ⊎ (n / 2 < v .declared + v .code + 1) → By-sentences nesting (length names) instructions text n (Refused 8 0) table
+      unfolding By-sentences
+      by-size h sizes ls lx = says-refused n table zeros (to-fit sizes ls lx ∙ too-large instructions n (v .declared) (v .declared + v .code + 1) (k .known .what) long h)
 
-      pub by-none : v .declared + v .code + 1 ≤ instructions → v .declared + v .code + 1 ≤ n / 2 → (table′ : List ℤ) → Written nesting (length names) text (v .declared) table table′ → Answered nesting (length names) instructions text n (Accepted (v .declared + v .code + 1) (v .declared) (v .declared + v .need)) table′
-      unfolding By-sentences Written reported
-      by-none i j table′ w = (
-        past (Accepted (v .declared + v .code + 1) (v .declared) (v .declared + v .need)) 0 refl (inl refl),
-        λ most ls lx p. rw (k .need-is) (says-accepted instructions n (v .declared) (v .declared + v .code + 1) (k .known .what) long i j table table′ zeros (to-fit most ls lx) (w most ls (it .tree) (k .known) lx (it .reads most ls lx) (k .are-known) (k .cells))),
-      )
+      pub by-none : v .declared + v .code + 1 ≤ instructions → v .declared + v .code + 1 ≤ n / 2 → (table′ : List ℤ) → Written nesting (length names) text (v .declared) table table′ → By-sentences nesting (length names) instructions text n (Accepted (v .declared + v .code + 1) (v .declared) (v .declared + v .need)) table′
+      unfolding By-sentences Written
+      by-none i j table′ w sizes ls lx = rw (k .need-is) (says-accepted instructions n (v .declared) (v .declared + v .code + 1) (k .known .what) long i j table table′ zeros (to-fit sizes ls lx) (w sizes ls (it .tree) (k .known) lx (it .reads sizes ls lx) (k .are-known) (k .cells)))
 
 -- ---- what the bytes decide
 
@@ -234,30 +200,23 @@ module _ (sizes : Sizes) (text : List ℕ) {f : Found} (scans : f ≡ scanned (l
   pub set-out : length text ≤ 1000000 → sizes .literal ≤ 2147483647 → Set-out sizes text [] 0
   set-out h l = record { clean = clean; short = h; code = omega arith; room = omega arith; literal = l }
 
-module _ (limit : ℕ) (sizes : Sizes) (nesting declared instructions : ℕ) (text : List ℕ) (n : ℕ) (table : List ℤ) where
-  abbrev Compiled : Answer → Type 0
-  Compiled r = By-bytes limit sizes text n r table × By-sentences nesting declared instructions text n r table
-
+module _ (limits : Limits) (text : List ℕ) (n : ℕ) (table : List ℤ) where
   -- by 1
-  pub by-length : table ≡ replicate n (pos 0) → ltb limit (length text) ≡ true → Compiled (Refused 1 0)
-  unfolding By-bytes By-sentences Decided lexed short-enough pass reported
-  by-length zeros h = (rw h (says-refused n table zeros refl), λ most ls lx p. absurd (p .not-1 refl))
+  pub by-length : table ≡ replicate n (pos 0) → ltb (limits .text) (length text) ≡ true → Says (compiled limits text n) n (Refused 1 0) table
+  unfolding compiled lexed short-enough pass
+  by-length zeros h = says-refused n table zeros (rw h)
 
-  module _ (short : ltb limit (length text) ≡ false) {f : Found} (scans : f ≡ scanned (lexemes sizes text)) where
+  module _ (short : ltb (limits .text) (length text) ≡ false) {f : Found} (scans : f ≡ scanned (lexemes (limits .sizes) text)) where
     -- by 2 or 3
-    pub by-bytes : table ≡ replicate n (pos 0) → {k p : ℕ} → f ≡ found.Refused k p → Compiled (Refused k p)
-    unfolding By-bytes By-sentences Decided lexed short-enough pass reported scanned
-    by-bytes zeros {k} {p} is = by (lexemes sizes text) refl (sym is ∙ scans)
+    pub by-bytes : table ≡ replicate n (pos 0) → {k p : ℕ} → f ≡ found.Refused k p → Says (compiled limits text n) n (Refused k p) table
+    unfolding compiled lexed short-enough pass scanned
+    by-bytes zeros {k} {p} is = says-refused n table zeros (rw (short, by (lexemes (limits .sizes) text) (sym is ∙ scans)))
       where
-        by : (a : A.Answer (List Placed)) → lexemes sizes text ≡ a → found.Refused k p ≡ scanned a → Compiled (Refused k p)
-        by (given ls) e h = let z : _≡_ {A = ℕ} 0 1 = cc in absurd (omega arith)
-        by (refused i q) e h =
-            let g : lexemes sizes text ≡ refused k p = cc in (
-              rw (short, g) (says-refused n table zeros refl),
-              λ most ls lx past. absurd (⊎-elim (past .not-2) (past .not-3) (lexemes-refuse sizes text k p g)),
-            )
+        by : (a : A.Answer (List Placed)) → found.Refused k p ≡ scanned a → a ≡ refused k p
+        by (given ls) h = let z : _≡_ {A = ℕ} 0 1 = cc in absurd (omega arith)
+        by (refused i q) h = cc
 
     -- by none of them
-    pub by-sentences : OneOf (0 ∷ 1 ∷ []) (tagOf the-type f) → (r : Answer) (cleared : List ℤ) → cleared ≡ replicate n (pos 0) → Past r → By-sentences nesting declared instructions text (length cleared) r table → Compiled r
-    unfolding By-bytes Decided lexed short-enough pass Clean Lexes lexemes
-    by-sentences t r cleared z p s = (rw (short, clean sizes text scans t .1) p, rw (as-many n cleared z) at s)
+    pub by-sentences : OneOf (0 ∷ 1 ∷ []) (tagOf the-type f) → (r : Answer) (cleared : List ℤ) → cleared ≡ replicate n (pos 0) → By-sentences (limits .nesting) (limits .declarations) (limits .instructions) text (length cleared) r table → Says (compiled limits text n) n r table
+    unfolding compiled lexed short-enough pass By-sentences Clean Lexes lexemes
+    by-sentences t r cleared z s = let c = clean (limits .sizes) text scans t in rw (short, c .1) ((rw (as-many n cleared z) at s) (limits .sizes) (c .0) (c .1))

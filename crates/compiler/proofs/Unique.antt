@@ -1,4 +1,4 @@
--- The contract of `compile` leaves one answer and one table for each text and each lent table, and they are the definition's. Assumes nothing.
+-- The contract of `compile` leaves one answer and one table for each text and each lent table. Assumes nothing.
 use mathlib.Core.Path.{_≡_, refl, sym, ap, _∙_}
 use mathlib.Core.List.{List}
 use mathlib.Core.Bool.{Bool, true, false, cond, _||_}
@@ -11,41 +11,19 @@ use lib.ListN.{length}
 use Rattle.limits.specs.Limits.{Limits}
 use Rattle.lexeme.specs.Answers as A
 use Rattle.lexeme.specs.Answers.{given, refused, pass}
-use Rattle.lexeme.specs.Lexemes.{Placed, Sizes, sizes, lexemes}
+use Rattle.lexeme.specs.Lexemes.{Placed, lexemes}
 use Rattle.names.specs.Names.{nothing-declared, resolved}
 use Rattle.meaning.specs.Layout.{program-need}
 use Rattle.meaning.proofs.Laid.{laid-program}
 use Rattle.compiler.specs.declared.Answer.{Answer}
 use Rattle.compiler.specs.declared.Answer.the-variants.{Accepted, Refused}
-use Rattle.compiler.specs.Answers.{reported, Says, Decided, By-bytes, By-sentences}
+use Rattle.compiler.specs.Answers.{reported, Says}
 use Rattle.compiler.specs.Compiled as C
 use Rattle.compiler.specs.Compiled.{Report, report, short-enough, code-of-text, fitting, lexed, laid-out, compiled}
 use Rattle.compiler.specs.Walks.{named}
 use Rattle.compiler.proofs.Lays.{never, refused-6-or-7}
 use Rattle.compiler.proofs.Reading.{read-refuses}
 use Rattle.compiler.proofs.Refusals.{Only, no-refusal, by-number, only-from, only-number, only-test, only-pass, lexemes-refuse}
-
--- what the two clauses say, with all limits
-pub record Promised (limits : Limits) (text : List ℕ) (n : ℕ) (r : Answer) (table : List ℤ) : Type 0 where
-  pub bytes : By-bytes (limits .text) (sizes limits) text n r table
-  pub sentences : By-sentences (limits .nesting) (limits .declarations) (limits .instructions) text n r table
-
-lexed-given : (limit : ℕ) (most : Sizes) (text : List ℕ) (ls : List Placed) → lexed limit most text ≡ given ls → lexemes most text ≡ given ls
-unfolding lexed short-enough pass
-lexed-given limit most text ls = by (ltb limit (length text))
-  where
-    by : (b : Bool) → pass (cond b (refused 1 0) (given (tt {0}))) (λ _. lexemes most text) ≡ given ls → lexemes most text ≡ given ls
-    by true e = never (sym e)
-    by false e = e
-
--- the two clauses together are the definition
-pub whole : (limits : Limits) (text : List ℕ) (n : ℕ) (r : Answer) (table : List ℤ) → Promised limits text n r table → Says (compiled limits text n) n r table
-unfolding By-bytes By-sentences Decided compiled pass
-whole limits text n r table p = by (lexed (limits .text) (sizes limits) text) refl (p .bytes)
-  where
-    by : (a : A.Answer (List Placed)) → lexed (limits .text) (sizes limits) text ≡ a → Decided a n r table → Says (pass a (λ ls. laid-out (limits .nesting) (limits .declarations) (limits .instructions) ls n)) n r table
-    by (given ls) e d = p .sentences (sizes limits) ls (lexed-given (limits .text) (sizes limits) text ls e) d
-    by (refused k q) e d = d
 
 -- ---- no refusal has the number 0
 
@@ -57,7 +35,7 @@ unfolding compiled lexed short-enough laid-out fitting resolved named pass
 compiled-numbered limits text n =
     only-pass
     (only-pass (only-test (ltb (limits .text) (length text)) (by-number (λ z. omega arith)) no-refusal)
-    (λ _. only-from _ (λ k p e z. ⊎-elim (λ h. omega arith) (λ h. omega arith) (lexemes-refuse (sizes limits) text k p e))))
+    (λ _. only-from _ (λ k p e z. ⊎-elim (λ h. omega arith) (λ h. omega arith) (lexemes-refuse (limits .sizes) text k p e))))
     (λ ls. only-pass
     (only-from _ (λ k p e z. ⊎-elim (λ h. omega arith) (λ h. omega arith) (read-refuses (limits .nesting) ls k p e)))
     (λ m. only-pass
@@ -83,11 +61,8 @@ told (refused k p) h (Accepted i c m) e = absurd (only-number h refl (sym (ap (�
 told (refused k p) h (Refused j q) e = ap (λ (x : Report). Refused (x .number) (x .place)) e
 
 module _ (limits : Limits) (text : List ℕ) (n : ℕ) where
-  pub is-answer : (r : Answer) (table : List ℤ) → Promised limits text n r table → r ≡ answer-of (compiled limits text n)
-  is-answer r table p = told (compiled limits text n) (compiled-numbered limits text n) r (whole limits text n r table p .answer)
+  pub is-answer : (r : Answer) (table : List ℤ) → Says (compiled limits text n) n r table → r ≡ answer-of (compiled limits text n)
+  is-answer r table s = told (compiled limits text n) (compiled-numbered limits text n) r (s .answer)
 
-  pub unique : (r r′ : Answer) (table table′ : List ℤ) → Promised limits text n r table → Promised limits text n r′ table′ → (r ≡ r′) × (table ≡ table′)
-  unique r r′ table table′ p p′ = (
-    is-answer r table p ∙ sym (is-answer r′ table′ p′),
-    whole limits text n r table p .numbers ∙ sym (whole limits text n r′ table′ p′ .numbers),
-  )
+  pub unique : (r r′ : Answer) (table table′ : List ℤ) → Says (compiled limits text n) n r table → Says (compiled limits text n) n r′ table′ → (r ≡ r′) × (table ≡ table′)
+  unique r r′ table table′ s s′ = (is-answer r table s ∙ sym (is-answer r′ table′ s′), s .numbers ∙ sym (s′ .numbers))

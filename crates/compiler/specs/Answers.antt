@@ -13,7 +13,7 @@ use Rattle.meaning.specs.Layout.{program-code}
 use Rattle.compiler.specs.declared.Answer.{Answer}
 use Rattle.compiler.specs.declared.Answer.the-variants.{Accepted, Refused}
 use Rattle.compiler.specs.Compiled as C
-use Rattle.compiler.specs.Compiled.{Report, report, table-after, lexed, laid-out}
+use Rattle.compiler.specs.Compiled.{Report, report, table-after, laid-out}
 use Rattle.compiler.specs.Tables.{emit}
 
 -- the paper's number and values for each case
@@ -26,24 +26,10 @@ pub record Says (a : A.Answer C.Accepted) (n : ℕ) (r : Answer) (table : List �
   pub answer : reported r ≡ report a
   pub numbers : table ≡ table-after n a
 
--- the number is none of 1, 2 and 3
-pub record Past (r : Answer) : Type 0 where
-  pub not-1 : reported r .number ≡ 1 → ⊥
-  pub not-2 : reported r .number ≡ 2 → ⊥
-  pub not-3 : reported r .number ≡ 3 → ⊥
-
--- the bytes decide: refusal 1, or the leftmost of 2 and 3; or the answer is none of these
-unfoldable pub Decided : A.Answer (List Placed) → ℕ → Answer → List ℤ → Type 0
-Decided (given ls) n r table = Past r
-Decided (refused k p) n r table = Says (refused k p) n r table
-
-unfoldable pub By-bytes : ℕ → Sizes → List ℕ → ℕ → Answer → List ℤ → Type 0
-By-bytes limit sizes text n r table = Decided (lexed limit sizes text) n r table
-
--- the sentences decide the rest, whatever the limits under which the text has these lexemes
+-- what the sentences decide, whatever the limits under which the text has these lexemes
 unfoldable pub By-sentences : ℕ → ℕ → ℕ → List ℕ → ℕ → Answer → List ℤ → Type 0
 By-sentences nesting declarations instructions text n r table =
-    (sizes : Sizes) (ls : List Placed) → lexemes sizes text ≡ given ls → Past r → Says (laid-out nesting declarations instructions ls n) n r table
+    (sizes : Sizes) (ls : List Placed) → lexemes sizes text ≡ given ls → Says (laid-out nesting declarations instructions ls n) n r table
 
 -- the code of a text that has these cells, written over a table
 unfoldable pub Written : ℕ → ℕ → List ℕ → ℕ → List ℤ → List ℤ → Type 0

@@ -7,7 +7,7 @@ use lib.IntN.{ℤ, pos}
 use lib.ListN.{length, replicate}
 use Rattle.limits.specs.Limits.{Limits}
 use Rattle.lexeme.specs.Answers.{Answer, given, refused, pass}
-use Rattle.lexeme.specs.Lexemes.{Placed, Sizes, sizes, lexemes}
+use Rattle.lexeme.specs.Lexemes.{Placed, Sizes, lexemes}
 use Rattle.sentence.specs.Sentences.{Sen, command}
 use Rattle.sentence.specs.Reader.{read}
 use Rattle.names.specs.Names.{Known, resolved}
@@ -46,7 +46,7 @@ laid-out nesting declarations instructions ls n =
 
 unfoldable pub compiled : Limits → List ℕ → ℕ → Answer Accepted
 compiled limits text n =
-    pass (lexed (limits .text) (sizes limits) text) λ ls.
+    pass (lexed (limits .text) (limits .sizes) text) λ ls.
     laid-out (limits .nesting) (limits .declarations) (limits .instructions) ls n
 
 -- ---- what is reported and what the table holds

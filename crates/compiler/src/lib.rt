@@ -10,7 +10,9 @@ ghost use mathlib.Core.List.{[], _∷_};
 ghost use Prim.Native.Nat.{_≤_};
 ghost use lib.IntN.{pos};
 ghost use lib.ListN.{length, replicate};
-ghost use Rattle.compiler.specs.Answers.{Past, By-bytes, By-sentences, Written};
+ghost use Rattle.limits.specs.Limits.{Sizes};
+ghost use Rattle.compiler.specs.Answers.{Says, By-sentences, Written};
+ghost use Rattle.compiler.specs.Compiled.{compiled};
 ghost use Rattle.compiler.specs.Tables.{opening};
 ghost use Rattle.compiler.specs.Walks.{Set-out, Reads-program};
 use lexeme::Found;
@@ -94,7 +96,6 @@ fn write(text: &[u8], table: &mut [i32], cells: usize)
 fn sentences(text: &[u8], table: &mut [i32]) -> Answer
     requires { do ⌜ Set-out (record { word = (← ⟦Limits::WORD⟧); string = (← ⟦Limits::STRING⟧); literal = (← ⟦Limits::LITERAL⟧) }) (now text) [] 0 ⌝ }
     requires { ⌜ now table ≡ replicate (length (now table)) (pos 0) ⌝ }
-    ensures past { λ r. ⌜ Past r ⌝ }
     ensures { λ r. do ⌜ By-sentences (← ⟦Limits::NESTING⟧ .entry) (← ⟦Limits::DECLARATIONS⟧ .entry) (← ⟦Limits::INSTRUCTIONS⟧ .entry) (now (text .entry)) (length (now (table .entry))) r (now (table .exit)) ⌝ }
 {
     let mut names = [0usize; Limits::DECLARATIONS];
@@ -116,9 +117,11 @@ fn sentences(text: &[u8], table: &mut [i32]) -> Answer
     }
 }
 
+// The ghost value is the limits of a lexeme: with them and the four others one clause names all seven.
 pub fn compile(text: &[u8], table: &mut [i32]) -> Answer
-    ensures bytes { λ r. do ⌜ By-bytes (← ⟦Limits::TEXT⟧ .entry) (record { word = (← ⟦Limits::WORD⟧ .entry); string = (← ⟦Limits::STRING⟧ .entry); literal = (← ⟦Limits::LITERAL⟧ .entry) }) (now (text .entry)) (length (now (table .entry))) r (now (table .exit)) ⌝ }
-    ensures sentences { λ r. do ⌜ By-sentences (← ⟦Limits::NESTING⟧ .entry) (← ⟦Limits::DECLARATIONS⟧ .entry) (← ⟦Limits::INSTRUCTIONS⟧ .entry) (now (text .entry)) (length (now (table .entry))) r (now (table .exit)) ⌝ }
+    ghost { Sizes }
+    requires { λ sizes. do ⌜ record { word = (← ⟦Limits::WORD⟧); string = (← ⟦Limits::STRING⟧); literal = (← ⟦Limits::LITERAL⟧) } ≡ sizes ⌝ }
+    ensures { λ sizes r. do ⌜ Says (compiled (record { text = (← ⟦Limits::TEXT⟧ .entry); sizes = sizes; nesting = (← ⟦Limits::NESTING⟧ .entry); declarations = (← ⟦Limits::DECLARATIONS⟧ .entry); instructions = (← ⟦Limits::INSTRUCTIONS⟧ .entry) }) (now (text .entry)) (length (now (table .entry)))) (length (now (table .entry))) r (now (table .exit)) ⌝ }
 {
     clear(table);
     if lexeme::too_long(text) {

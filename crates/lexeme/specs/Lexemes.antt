@@ -5,7 +5,7 @@ use Prim.Native.Nat.{ℕ, zero, suc, _+_, _-_, _*_}
 use Prim.Native.Char.{code}
 use lib.Dec.{leb, ltb, eqb}
 use lib.ListN.{length, drop}
-use Rattle.limits.specs.Limits.{Limits}
+pub use Rattle.limits.specs.Limits.{Sizes}
 use Rattle.lexeme.specs.Answers.{Answer, given, refused, pass}
 use Rattle.lexeme.specs.Bytes.{bytes, separator, small, letter, digit, letter-or-digit, no-quote, run, all, same}
 
@@ -104,18 +104,6 @@ starts-small (b ∷ w) = small b
 unfoldable pub value : ℕ → List ℕ → ℕ
 value n [] = n
 value n (b ∷ w) = value (n * 10 + (b - 48)) w
-
--- the limits of refusal 3
-pub record Sizes : Type 0 where
-  -- letters of a letter word
-  pub word : ℕ
-  -- bytes between a string's quotes
-  pub string : ℕ
-  -- the value of a literal
-  pub literal : ℕ
-
-abbrev pub sizes : Limits → Sizes
-sizes lim = record { word = lim .word; string = lim .string; literal = lim .literal }
 
 -- a letter word at the place p, with the most letters that it may have
 unfoldable pub letter-word : ℕ → ℕ → List ℕ → Answer Next

@@ -18,7 +18,7 @@ same-length : tie.Need-same-length
 same-length c = search needs
 
 returns : tie.Need-returns
-returns c = by-length _ _ _ _ _ _ _ _ (c .before .before .before .clear .ensures) (sym (c .before .too-long .ensures) ∙ c .if1 .taken)
+returns c = by-length _ _ _ _ (c .before .before .before .clear .ensures) (sym (c .before .too-long .ensures) ∙ c .if1 .taken)
 
 scan-requires : tie.Need-scan-requires
 scan-requires c κs = search needs
@@ -33,13 +33,13 @@ same-length-2 : tie.Need-same-length-2
 same-length-2 c = search needs
 
 returns-2 : tie.Need-returns-2
-returns-2 c = by-sentences _ _ _ _ _ _ _ _ (sym (c .before .before .before .before .before .before .too-long .ensures) ∙ c .before .before .before .before .before .if1 .left) (c .before .before .before .before .scan .ensures) (c .before .before .before .match .keys2) _ _ (c .before .before .before .before .before .before .before .before .clear .ensures) (c .before .sentences .ensures .0) (c .before .sentences .ensures .1)
+returns-2 c = by-sentences _ _ _ _ (sym (c .before .before .before .before .before .before .too-long .ensures) ∙ c .before .before .before .before .before .if1 .left) (c .before .before .before .before .scan .ensures) (c .before .before .before .match .keys2) _ _ (c .before .before .before .before .before .before .before .before .clear .ensures) (c .before .sentences .ensures)
 
 same-length-3 : tie.Need-same-length-3
 same-length-3 c = search needs
 
 returns-3 : tie.Need-returns-3
-returns-3 c = by-bytes _ _ _ _ _ _ _ _ (sym (c .before .before .before .before .before .too-long .ensures) ∙ c .before .before .before .before .if1 .left) (c .before .before .before .scan .ensures) (c .before .before .before .before .before .before .before .clear .ensures) (c .before .f .given .1)
+returns-3 c = by-bytes _ _ _ _ (sym (c .before .before .before .before .before .too-long .ensures) ∙ c .before .before .before .before .if1 .left) (c .before .before .before .scan .ensures) (c .before .before .before .before .before .before .before .clear .ensures) (c .before .f .given .1)
 
 pub compile-spec : {M : Type 1} → statement M
 compile-spec =

@@ -41,7 +41,7 @@ add-t16 : tie.Need-add-t16
 add-t16 c = omega (arith, counted _ _ _ _ _ _ _ (c .before .before .before .before .before .before .before .before .before .before .before .before .before .before .program .ensures) (c .before .before .before .before .before .before .before .before .before .before .r2 .given .1), c .before .before .before .before .before .before .before .before .before .before .before .before .before .before .before .before .before .before .pre .0 .short)
 
 returns-3 : tie.Need-returns-3
-returns-3 c = by-reading _ _ _ _ _ _ _ (c .before .before .before .before .before .program .ensures) _ _ (c .before .before .before .before .before .before .before .before .before .pre .1) _ (c .before .before .before .before .before .before .before .before .before .pre .0 .clean) (c .before .r .given .1)
+returns-3 c = by-reading _ _ _ _ _ _ _ (c .before .before .before .before .before .program .ensures) _ _ (c .before .before .before .before .before .before .before .before .before .pre .1) (c .before .r .given .1)
 
 same-length : tie.Need-same-length
 same-length c = search needs
