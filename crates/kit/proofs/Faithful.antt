@@ -10,7 +10,6 @@ use lib.IntN.{ℤ}
 use lib.ListN.{length}
 use Rattle.limits.specs.Limits.{Limits}
 use Rattle.lexeme.specs.Answers.{Answer, given, refused, pass}
-use Rattle.lexeme.specs.Lexemes.{Placed, Sizes, sizes, lexemes}
 use Rattle.sentence.specs.Grammar.{whats, Whole}
 use Rattle.sentence.specs.Reader.{read}
 use Rattle.sentence.proofs.Refusals.{accepts}
@@ -29,7 +28,7 @@ use Rattle.compiler.specs.Compiled.{Accepted, short-enough, fitting, lexed, lai
 use Rattle.kit.proofs.Strings.{program-strings}
 
 -- what was given was given by both parts
-pub given-by : {A B : Type 0} (a : Answer A) (f : A → Answer B) (b : B) → pass a f ≡ given b → (x : A) × (a ≡ given x) × (f x ≡ given b)
+given-by : {A B : Type 0} (a : Answer A) (f : A → Answer B) (b : B) → pass a f ≡ given b → (x : A) × (a ≡ given x) × (f x ≡ given b)
 unfolding pass
 given-by (given x) f b e = (x, refl, e)
 given-by (refused n p) f b e = let z : _≡_ {A = ℕ} 0 1 = cc in absurd (omega arith)
@@ -42,35 +41,24 @@ fitting-same limit pairs x a e = by (ltb limit (length (code-of-text x)) || ltb 
     by true q = let z : _≡_ {A = ℕ} 0 1 = cc in absurd (omega arith)
     by false q = cc
 
--- from the text's lexemes, whatever the limits under which it has them
-module _ (most : Sizes) (text : List ℕ) (nesting declarations instructions : ℕ) (ls : List Placed) (n : ℕ) (a : Accepted) (lexes : lexemes most text ≡ given ls) (lays : laid-out nesting declarations instructions ls n ≡ given a) where
-  -- the cells of an accepted text's sentences are its own, and its strings stand in the text
-  pub fits-laid : Fits text (a .cells) (a .command)
-  unfolding laid-out resolved
-  fits-laid =
-      let r = given-by (read nesting ls) _ a lays in
-      let k = given-by (resolved declarations (r .0)) _ a (r .2) in
-      let w : Whole (whats ls) (r .0) = accepts nesting ls (r .0) .0 (r .1) .0 in
-      let g = resolved-well declarations (Stands text) (r .0) (k .1) (program-strings text most ls (r .0) lexes w) in
-      subst (λ (x : Accepted). Fits text (x .cells) (x .command)) (fitting-same instructions (n / 2) _ a (k .2)) (g .each)
-
-module _ (text : List ℕ) (a : Accepted) (fits : Fits text (a .cells) (a .command)) (readings : List ℤ) (room cells budget-given : ℕ) (enough : program-need (a .cells) (a .command) ≤ cells) where
-  pub runs : whole-run (record { text = text; table = numbers (code-of-text a); readings = readings; cells = cells; room = room }) budget-given ≡ report budget-given (meaning readings room (a .cells) (a .command) budget-given)
-  unfolding code-of-text
-  runs = whole text readings room cells (a .cells) (a .command) budget-given fits enough
-
 module _ (limits : Limits) (text : List ℕ) (n : ℕ) (a : Accepted) (accepted : compiled limits text n ≡ given a) where
+  -- the cells of an accepted text's sentences are its own, and its strings stand in the text
   pub fits : Fits text (a .cells) (a .command)
-  unfolding compiled lexed
+  unfolding compiled lexed laid-out resolved
   fits =
-      let l = given-by (lexed (limits .text) (sizes limits) text) _ a accepted in
+      let l = given-by (lexed (limits .text) (limits .sizes) text) _ a accepted in
       let s = given-by (short-enough (limits .text) text) _ (l .0) (l .1) in
-      fits-laid (sizes limits) text (limits .nesting) (limits .declarations) (limits .instructions) (l .0) n a (s .2) (l .2)
+      let r = given-by (read (limits .nesting) (l .0)) _ a (l .2) in
+      let k = given-by (resolved (limits .declarations) (r .0)) _ a (r .2) in
+      let w : Whole (whats (l .0)) (r .0) = accepts (limits .nesting) (l .0) (r .0) .0 (r .1) .0 in
+      let g = resolved-well (limits .declarations) (Stands text) (r .0) (k .1) (program-strings text (limits .sizes) (l .0) (r .0) (s .2) w) in
+      subst (λ (x : Accepted). Fits text (x .cells) (x .command)) (fitting-same (limits .instructions) (n / 2) _ a (k .2)) (g .each)
 
   module _ (readings : List ℤ) (room cells budget-given : ℕ) (enough : program-need (a .cells) (a .command) ≤ cells) where
     -- ending, output, readings used and steps are those worked out from the sentences alone
     pub faithful : whole-run (record { text = text; table = numbers (code-of-text a); readings = readings; cells = cells; room = room }) budget-given ≡ report budget-given (meaning readings room (a .cells) (a .command) budget-given)
-    faithful = runs text a fits readings room cells budget-given enough
+    unfolding code-of-text
+    faithful = whole text readings room cells (a .cells) (a .command) budget-given fits enough
 
 -- ---- how the meaning of an accepted text ends
 

@@ -7,14 +7,13 @@ use lib.Dec.{eqb, leb}
 use lib.IntN.{ℤ}
 use lib.ListN.{length, take}
 use Rattle.lexeme.specs.Answers.{Answer, given, refused}
-use Rattle.lexeme.specs.Lexemes.{Placed, Sizes, lexemes}
 use Rattle.machine.specs.Endings.{normal}
 use Rattle.machine.specs.Machine as M
 use Rattle.machine.specs.Promise as Promise
 use Rattle.machine.specs.declared.Report as Code
 use Rattle.meaning.specs.Layout.{program-need}
 use Rattle.meaning.specs.Meaning.{meaning}
-use Rattle.compiler.specs.Compiled.{Accepted, table-after, lexed, laid-out}
+use Rattle.compiler.specs.Compiled.{Accepted, table-after}
 use Rattle.kit.specs.declared.Outcome.{Outcome}
 use Rattle.kit.specs.declared.Outcome.the-variants.{Ran, Refused, Needs}
 
@@ -36,26 +35,6 @@ module _ (readings : List ℤ) (budget : ℕ) (stack : List ℤ) (out : List ℕ
   pub record Says (a : Answer Accepted) (n : ℕ) (r : Outcome) (table′ : List ℤ) (stack′ : List ℤ) (out′ : List ℕ) : Type 0 where
     pub comes : Comes-to a r stack′ out′
     pub numbers : table′ ≡ table-after n a
-
--- it was not refused by 1, 2 or 3
-abbrev pub Past : Outcome → Type 0
-Past (Ran r) = Unit {0}
-Past (Refused n p) = (n ≡ 1 → ⊥) × (n ≡ 2 → ⊥) × (n ≡ 3 → ⊥)
-Past (Needs n) = Unit {0}
-
-module _ (text : List ℕ) (readings : List ℤ) (budget n : ℕ) (stack : List ℤ) (out : List ℕ) (r : Outcome) (table′ stack′ : List ℤ) (out′ : List ℕ) where
-  -- the bytes decide: refusal 1, or the leftmost of 2 and 3; or the outcome is none of these
-  unfoldable pub Decided : Answer (List Placed) → Type 0
-  Decided (given ls) = Past r
-  Decided (refused k p) = Says readings budget stack out (refused k p) n r table′ stack′ out′
-
--- the sentences decide the rest, whatever the limits under which the text has these lexemes
-unfoldable pub By-bytes : ℕ → Sizes → List ℕ → List ℤ → ℕ → ℕ → List ℤ → List ℕ → Outcome → List ℤ → List ℤ → List ℕ → Type 0
-By-bytes limit sizes text readings budget n stack out r table′ stack′ out′ = Decided text readings budget n stack out r table′ stack′ out′ (lexed limit sizes text)
-
-unfoldable pub By-sentences : ℕ → ℕ → ℕ → List ℕ → List ℤ → ℕ → ℕ → List ℤ → List ℕ → Outcome → List ℤ → List ℤ → List ℕ → Type 0
-By-sentences nesting declarations instructions text readings budget n stack out r table′ stack′ out′ =
-    (sizes : Sizes) (ls : List Placed) → lexemes sizes text ≡ given ls → Past r → Says readings budget stack out (laid-out nesting declarations instructions ls n) n r table′ stack′ out′
 
 -- only ending 0 may be sent on to the feed
 unfoldable pub sendable : ℕ → ℕ → List ℕ → List ℕ

@@ -1,7 +1,9 @@
 // What users call: a text compiled and run, and what may be sent on to the feed.
 ghost use mathlib.Core.Path.{_≡_};
 ghost use lib.ListN.{length};
-ghost use Rattle.kit.specs.Kit.{By-bytes, By-sentences, sendable};
+ghost use Rattle.limits.specs.Limits.{Sizes};
+ghost use Rattle.compiler.specs.Compiled.{compiled};
+ghost use Rattle.kit.specs.Kit.{Says, sendable};
 use compiler::Answer;
 use limits::Limits;
 use machine::Report;
@@ -24,8 +26,9 @@ pub fn run_text(
     stack: &mut [i32],
     out: &mut [u8],
 ) -> Outcome
-    ensures bytes { λ r. do ⌜ By-bytes (← ⟦Limits::TEXT⟧ .entry) (record { word = (← ⟦Limits::WORD⟧ .entry); string = (← ⟦Limits::STRING⟧ .entry); literal = (← ⟦Limits::LITERAL⟧ .entry) }) (now (text .entry)) (now (readings .entry)) budget (length (now (table .entry))) (now (stack .entry)) (now (out .entry)) r (now (table .exit)) (now (stack .exit)) (now (out .exit)) ⌝ }
-    ensures sentences { λ r. do ⌜ By-sentences (← ⟦Limits::NESTING⟧ .entry) (← ⟦Limits::DECLARATIONS⟧ .entry) (← ⟦Limits::INSTRUCTIONS⟧ .entry) (now (text .entry)) (now (readings .entry)) budget (length (now (table .entry))) (now (stack .entry)) (now (out .entry)) r (now (table .exit)) (now (stack .exit)) (now (out .exit)) ⌝ }
+    ghost { Sizes }
+    requires { λ sizes. do ⌜ record { word = (← ⟦Limits::WORD⟧); string = (← ⟦Limits::STRING⟧); literal = (← ⟦Limits::LITERAL⟧) } ≡ sizes ⌝ }
+    ensures { λ sizes r. do ⌜ Says (now (readings .entry)) budget (now (stack .entry)) (now (out .entry)) (compiled (record { text = (← ⟦Limits::TEXT⟧ .entry); sizes = sizes; nesting = (← ⟦Limits::NESTING⟧ .entry); declarations = (← ⟦Limits::DECLARATIONS⟧ .entry); instructions = (← ⟦Limits::INSTRUCTIONS⟧ .entry) }) (now (text .entry)) (length (now (table .entry)))) (length (now (table .entry))) r (now (table .exit)) (now (stack .exit)) (now (out .exit)) ⌝ }
 {
     let a = compiler::compile(text, table);
     match a {
