@@ -1,16 +1,20 @@
 // What C and Rust call. A slice passes as a pointer and a length (include/o.h).
+ghost use mathlib.Core.Path.{_≡_};
 ghost use lib.ListN.{length};
 ghost use Rattle.machine.specs.Machine.{whole-run};
 ghost use Rattle.machine.specs.Promise.{lends};
-ghost use Rattle.export.specs.Reports.{RanInto, By-bytes, By-sentences};
+ghost use Rattle.limits.specs.Limits.{Sizes};
+ghost use Rattle.compiler.specs.Compiled.{compiled};
+ghost use Rattle.export.specs.Reports.{RanInto, CompiledInto};
 use compiler::Answer;
 use limits::Limits;
 
 // A text compiled into the table; the report is its number, place, instructions, cells and stack need, where a refusal has only the first two.
 #[no_mangle]
 pub extern "C" fn o_compile(text: &[u8], table: &mut [i32], report: &mut [u64; 5])
-    ensures bytes { λ _. do ⌜ By-bytes (← ⟦Limits::TEXT⟧ .entry) (record { word = (← ⟦Limits::WORD⟧ .entry); string = (← ⟦Limits::STRING⟧ .entry); literal = (← ⟦Limits::LITERAL⟧ .entry) }) (now (text .entry)) (length (now (table .entry))) (now (report .exit)) (now (table .exit)) ⌝ }
-    ensures sentences { λ _. do ⌜ By-sentences (← ⟦Limits::NESTING⟧ .entry) (← ⟦Limits::DECLARATIONS⟧ .entry) (← ⟦Limits::INSTRUCTIONS⟧ .entry) (now (text .entry)) (length (now (table .entry))) (now (report .exit)) (now (table .exit)) ⌝ }
+    ghost { Sizes }
+    requires { λ sizes. do ⌜ record { word = (← ⟦Limits::WORD⟧); string = (← ⟦Limits::STRING⟧); literal = (← ⟦Limits::LITERAL⟧) } ≡ sizes ⌝ }
+    ensures { λ sizes _. do ⌜ CompiledInto (compiled (record { text = (← ⟦Limits::TEXT⟧ .entry); sizes = sizes; nesting = (← ⟦Limits::NESTING⟧ .entry); declarations = (← ⟦Limits::DECLARATIONS⟧ .entry); instructions = (← ⟦Limits::INSTRUCTIONS⟧ .entry) }) (now (text .entry)) (length (now (table .entry)))) (length (now (table .entry))) (now (report .exit)) (now (table .exit)) ⌝ }
 {
     let a = compiler::compile(text, table);
     match a {

@@ -17,8 +17,8 @@ use Rattle.bench.proofs.yield_as_expected.Statement.{statement}
 use Rattle.bench.proofs.yield_as_expected.Tie as tie
 
 returns : tie.Need-returns
-returns c = rw (c .pre .0, c .pre .1, c .pre .2)
-    (unfold
+returns c =
+    unfold
     Answers.pass
     Bytes.bytes-from Bytes.bytes Bytes.separator Bytes.small Bytes.capital Bytes.letter Bytes.digit Bytes.letter-or-digit Bytes.no-quote Bytes.run Bytes.all Bytes.same
     Coded.code-of
@@ -32,7 +32,7 @@ returns c = rw (c .pre .0, c .pre .1, c .pre .2)
     Layout.size Layout.code Layout.program-code Layout.need Layout.program-need
     Compiled.short-enough Compiled.code-of-text Compiled.fitting Compiled.lexed Compiled.laid-out Compiled.compiled Compiled.report Compiled.filled Compiled.table-after
     Examples.ran Examples.judged Examples.yields
-    in refl)
+    in refl
 
 pub yield-as-expected-spec : {M : Type 1} → statement M
 yield-as-expected-spec = tie.close (tie.spec returns)
