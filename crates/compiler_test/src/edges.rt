@@ -56,23 +56,23 @@ fn nested(first: &[u8], open: &[u8], n: usize, middle: &[u8], close: &[u8]) {
     judge(&text[..e], &mut table);
 }
 
-fn nestings() {
-    io::write_all(STDOUT_FILENO, b"32 and 33 nestings\n");
-    nested(b"DO PRINTI ", b"(", 32, b"1", b")");
-    nested(b"DO PRINTI ", b"(", 33, b"1", b")");
-    nested(b"DO ", b"{", 32, b"ERROR", b"}");
-    nested(b"DO ", b"{", 33, b"ERROR", b"}");
-    nested(b"DO ", b"IF 1<2 THEN ", 32, b"ERROR", b"");
-    nested(b"DO ", b"IF 1<2 THEN ", 33, b"ERROR", b"");
-    nested(b"DO ", b"WHILE 1<2 DO ", 32, b"ERROR", b"");
-    nested(b"DO ", b"WHILE 1<2 DO ", 33, b"ERROR", b"");
+// At a limit, and one past it.
+fn edge(first: &[u8], open: &[u8], n: u16, middle: &[u8], close: &[u8]) {
+    nested(first, open, n as usize, middle, close);
+    nested(first, open, n as usize + 1, middle, close);
 }
 
-fn more_nestings() {
-    nested(b"DO IF ", b"NOT ", 31, b"1<2 THEN ERROR", b"");
-    nested(b"DO IF ", b"NOT ", 32, b"1<2 THEN ERROR", b"");
-    nested(b"DO ", b"{IF NOT 1<(2) THEN ", 15, b"ERROR", b"}");
-    nested(b"DO ", b"{IF NOT 1<(2) THEN ", 16, b"ERROR", b"}");
+fn nestings() {
+    io::write_all(STDOUT_FILENO, b"32 and 33 nestings\n");
+    edge(b"DO PRINTI ", b"(", 32, b"1", b")");
+    edge(b"DO ", b"{", 32, b"ERROR", b"}");
+    edge(b"DO ", b"IF 1<2 THEN ", 32, b"ERROR", b"");
+    edge(b"DO ", b"WHILE 1<2 DO ", 32, b"ERROR", b"");
+    edge(b"DO IF ", b"NOT ", 31, b"1<2 THEN ERROR", b"");
+}
+
+fn mixed_nestings() {
+    edge(b"DO ", b"{IF NOT 1<(2) THEN ", 15, b"ERROR", b"}");
     nested(b"DO ", b"{IF 1<2 THEN ", 16, b"ERROR", b"}");
     nested(b"DO ", b"{IF 1<2 THEN ", 16, b"PRINTI (1)", b"}");
     nested(b"DO ", b"{IF 1<2 THEN ", 16, b"PRINTI )", b"}");
@@ -80,8 +80,7 @@ fn more_nestings() {
 
 fn declarations() {
     io::write_all(STDOUT_FILENO, b"64 and 65 declarations\n");
-    nested(b"DO {", b"INT n ", 64, b"}", b"");
-    nested(b"DO {", b"INT n ", 65, b"}", b"");
+    edge(b"DO {", b"INT n ", 64, b"}", b"");
     nested(b"DO {", b"{INT n} ", 65, b"}", b"");
     nested(b"DO {", b"INT n ", 65, b"m:=1}", b"");
     nested(b"DO {m:=1 ", b"INT n ", 65, b"}", b"");
@@ -99,11 +98,9 @@ fn lengths() {
         STDOUT_FILENO,
         b"16,384 and 16,385 bytes; names of 32 and 33 letters\n",
     );
-    nested(b"DO ERROR", b" ", 16376, b"", b"");
-    nested(b"DO ERROR", b" ", 16377, b"", b"");
+    edge(b"DO ERROR", b" ", 16376, b"", b"");
     nested(b";", b" ", 16384, b"", b"");
-    nested(b"DO INT ", b"n", 32, b"", b"");
-    nested(b"DO INT ", b"n", 33, b"", b"");
+    edge(b"DO INT ", b"n", 32, b"", b"");
 }
 
 // The answer with only so many numbers lent.
@@ -128,7 +125,7 @@ fn tables() {
 
 pub fn all() {
     nestings();
-    more_nestings();
+    mixed_nestings();
     declarations();
     instructions();
     lengths();
