@@ -1,1 +1,1 @@
-pub mod Compiles
+pub mod Numbers

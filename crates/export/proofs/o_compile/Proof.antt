@@ -1,7 +1,7 @@
 -- `o_compile` meets its contract. Assumes nothing.
 use borrow.Author.Needs.{needs}
 use Rattle.compiler.specs.Answers.{reported}
-use Rattle.export.proofs.Compiles.{into}
+use Rattle.export.proofs.Numbers.{compiled-into}
 use Rattle.export.proofs.o_compile.Statement.{statement}
 use Rattle.export.proofs.o_compile.Tie as tie
 
@@ -22,14 +22,14 @@ same-length c = search needs
 
 returns : tie.Need-returns
 unfolding reported
-returns c = into (c .before .before .before .before .before .compile .ensures) (c .before .before .a .given .1)
+returns c = compiled-into (c .before .before .before .before .before .compile .ensures) (c .before .before .a .given .1)
 
 same-length-2 : tie.Need-same-length-2
 same-length-2 c = search needs
 
 returns-2 : tie.Need-returns-2
 unfolding reported
-returns-2 c = into (c .before .before .before .before .before .compile .ensures) (c .before .before .a2 .given .1)
+returns-2 c = compiled-into (c .before .before .before .before .before .compile .ensures) (c .before .before .a2 .given .1)
 
 pub o-compile-spec : {M : Type 1} → statement M
 o-compile-spec =

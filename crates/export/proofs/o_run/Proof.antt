@@ -1,5 +1,6 @@
 -- `o_run` meets its contract. Assumes nothing.
 use borrow.Author.Needs.{needs}
+use Rattle.export.proofs.Numbers.{ran-into}
 use Rattle.export.proofs.o_run.Statement.{statement}
 use Rattle.export.proofs.o_run.Tie as tie
 
@@ -19,8 +20,7 @@ same-length-2 : tie.Need-same-length-2
 same-length-2 c = search needs
 
 returns : tie.Need-returns
-returns c = let r = c .before .before .before .before .before .before .run .ensures .reported in
-    record { reported = rw (r .ending, r .steps, r .used, r .size); stack = c .before .before .before .before .before .before .run .ensures .stack; room = r .room }
+returns c = ran-into _ (c .before .before .before .before .before .before .run .ensures)
 
 pub o-run-spec : {M : Type 1} → statement M
 o-run-spec = tie.close (tie.spec run-requires cast-t13 cast-t14 same-length same-length-2 returns)
