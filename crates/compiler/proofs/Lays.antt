@@ -598,18 +598,6 @@ module _ (limit : ℕ) where
   unfolding named pass
   refused-6-or-7 x s n p e = only-number (resolves x .only s) e
 
--- a walk that began with no refusal has none, or 6 or 7
-pub fault-0-6-7 : {k : Kind} {text names names′ : List ℕ} {table table′ : List ℤ} {w v : Walk} {x : Sen Name k} {s : Scope} → stand text names w ≡ given s → Lays text names table w x names′ table′ v → (v .fault ≡ 0) ⊎ ((v .fault ≡ 6) ⊎ (v .fault ≡ 7))
-fault-0-6-7 {text} {names} {names′} {table} {table′} {w} {v} {x} {s} g p = by (leads p) (eqb (v .fault) 0) refl
-  where
-    by : Leads (Laid table table′ w v) (stand text names′ v) (pass (stand text names w) (resolve (length names) x)) → (b : Bool) → eqb (v .fault) 0 ≡ b → (v .fault ≡ 0) ⊎ ((v .fault ≡ 6) ⊎ (v .fault ≡ 7))
-    by l true e = inl (eqb-true (v .fault) 0 e)
-    by (gives r f d q) false e = never (sym d ∙ stand-faulted text names′ v e)
-    by (refuses n i f d) false e =
-        let h : refused (v .fault) (v .place) ≡ refused n i = sym (stand-faulted text names′ v e) ∙ d in
-        let j : v .fault ≡ n = cc in
-        inr (rw j (refused-6-or-7 (length names) x s n i (unfold named in rw (← g) f)))
-
 -- ---- what the next reader may be called with
 
 module _ {sizes : Sizes} {text names : List ℕ} {w : Walk} {allow : ℕ} (r : Ready sizes text names w allow) where
