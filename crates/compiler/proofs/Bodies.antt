@@ -1,6 +1,7 @@
 -- How the readers of commands go on from what they called: the first lexeme, the condition before a body, the commands of a block. Assumes nothing.
-use mathlib.Core.Path.{_≡_, sym, _∙_}
+use mathlib.Core.Path.{_≡_, refl, sym, _∙_}
 use mathlib.Core.List.{List, [], _∷_}
+use mathlib.Core.Bool.{Bool, true, false}
 use Prim.Native.Nat.{ℕ, suc, _+_, _-_, _≤_, _<_, max}
 use native.Mathlib.Nat.{le-refl}
 use native.Mathlib.Omega.{arith}
@@ -11,21 +12,22 @@ use Rattle.lexeme.specs.Coded.{code-of}
 use Rattle.lexeme.specs.Lexemes.{Name, Sizes, end}
 use Rattle.lexeme.specs.declared.Kind.the-variants as kind
 use Rattle.lexeme.specs.declared.Lexeme as code
-use Rattle.sentence.specs.Sentences.{Sen, condition, command, commands, while, when, block, single, then}
+use Rattle.sentence.specs.Sentences.{Sen, condition, command, commands, block, single, then}
 use Rattle.sentence.specs.Reader.{Around, State, after-command}
 use Rattle.compiler.specs.declared.walk.Walk.{Walk}
 use Rattle.compiler.specs.declared.walk.Read.{Read}
 use Rattle.compiler.specs.declared.walk.Read.the-variants.{Done, Refused}
 use Rattle.compiler.specs.Lexing.{Looks, Expects}
-use Rattle.compiler.specs.Steps.{fixed-number, moved-to, one-more, needing}
+use Rattle.compiler.specs.Steps.{fixed-number, moved-to, one-more, needing, before-body, ended-walk, ended-table}
 use Rattle.compiler.specs.Tables.{put}
-use Rattle.compiler.specs.Walks.{Lays, Ready, Reads, Reads-command, Reads-condition, Reads-when, Reads-while, Reads-block}
-use Rattle.compiler.proofs.Commands.{command-from, command-way, block-so-far, when-leads, while-leads, block-first, block-more, block-closed}
+use Rattle.compiler.specs.Walks.{Lays, Ready, Reads, Reads-command, Reads-condition, Reads-guarded, Reads-block}
+use Rattle.compiler.proofs.Commands.{command-from, command-way, block-so-far, guarded-leads, block-first, block-more, block-closed}
 use Rattle.compiler.proofs.Expected.{Expected, expected}
-use Rattle.compiler.proofs.Lays.{lead, lays-when, lays-while, lays-single, lays-then, lays-block, counts-fit, ready-after, ready-body}
+use Rattle.compiler.proofs.Lays.{guarded, lead, lays-guarded, lays-single, lays-then, lays-block, counts-fit, ready-after, ready-body}
 use Rattle.compiler.proofs.Looked.{Seen, seen, no-fixed}
 use Rattle.compiler.proofs.Passes.{condition-way}
 use Rattle.compiler.proofs.Reading.{Passed, Leads, After, after-fixed, after-name, after-met, clean-passed}
+use Rattle.compiler.proofs.Replies.{Got, got, counts-got}
 
 -- ---- the first lexeme of a command
 
@@ -50,25 +52,41 @@ reads-past {start} {allow} {allow′} {e} {text} names table w q names′ table�
     by (Done u) (x, p, y) = (x, l .passes x p, lead e (omega (arith, a .later)) y)
     by (Refused n p) g = l .refuses n p g
 
--- ---- a condition, and the lexeme f before the body
+-- ---- a condition, and the lexeme before the body
+
+before-some : (again : Bool) → code-of (before-body again) ≡ 0 → ⊥
+unfolding before-body code-of
+before-some true z = omega arith
+before-some false z = omega arith
 
 -- by the walk from w to `before`, and after the lexeme to x
-pub record Headed (f : ℕ) (text names : List ℕ) (table : List ℤ) (w : Walk) (allow : ℕ) (table₁ : List ℤ) (x : Walk) : Type 0 where
+pub record Headed (again : Bool) (text names : List ℕ) (table : List ℤ) (w : Walk) (allow : ℕ) (table₁ : List ℤ) (x : Walk) : Type 0 where
   pub test : Sen Name condition
   pub before : Walk
   pub passed : Passed condition-way text (w .at) (before .at) allow test
   pub laid : Lays text names table w test names table₁ before
-  pub next : Expected text before f x
+  pub next : Expected text before (code-of (before-body again)) x
 
-pub headed : {f : ℕ} {sizes : Sizes} {text names : List ℕ} {table table₁ : List ℤ} {w x : Walk} {allow : ℕ} {q s : Read} {v : Walk} → Ready sizes text names w allow → q ≡ Done v → Reads-condition text names table w allow q names table₁ → s ≡ Done x → Expects text v f s → Headed f text names table w allow table₁ x
+pub headed : {again : Bool} {f : ℕ} {sizes : Sizes} {text names : List ℕ} {table table₁ : List ℤ} {w x : Walk} {allow : ℕ} {q s : Read} {v : Walk} → Ready sizes text names w allow → q ≡ Done v → Reads-condition text names table w allow q names table₁ → f ≡ code-of (before-body again) → s ≡ Done x → Expects text v f s → Headed again text names table w allow table₁ x
 unfolding Reads
-headed {v} ready d h e k =
+headed {v} ready d h f e k =
     let g = rw d at h in
-    record { test = g .0; before = v; passed = g .1; laid = g .2; next = expected _ e (clean-passed _ (g .1) (ready .clean)) k }
+    record { test = g .0; before = v; passed = g .1; laid = g .2; next = expected _ e (clean-passed _ (g .1) (ready .clean)) (rw f at k) }
 
-module _ {f : ℕ} {sizes : Sizes} {text names : List ℕ} {table table₁ : List ℤ} {w x : Walk} {allow : ℕ} (some : f ≡ 0 → ⊥) (ready : Ready sizes text names w allow) (b : Headed f text names table w allow table₁ x) where
-  pub past-head : After sizes text (b .before .at) (x .at)
-  past-head = after-met _ (clean-passed _ (b .passed) (ready .clean)) (b .next .met) some
+-- how far the end of the body goes beyond it
+ended-code : (again : Bool) (w : Walk) (n : ℕ) → ended-walk again w n .code ≤ w .code + 1
+unfolding ended-walk one-more needing
+ended-code true w n = le-refl _
+ended-code false w n = omega arith
+
+ended-at : (again : Bool) (w : Walk) (n : ℕ) → ended-walk again w n .at ≡ w .at
+unfolding ended-walk one-more needing
+ended-at true w n = refl
+ended-at false w n = refl
+
+module _ {again : Bool} {sizes : Sizes} {text names : List ℕ} {table table₁ : List ℤ} {w x : Walk} {allow : ℕ} (ready : Ready sizes text names w allow) (b : Headed again text names table w allow table₁ x) where
+  past-head : After sizes text (b .before .at) (x .at)
+  past-head = after-met _ (clean-passed _ (b .passed) (ready .clean)) (b .next .met) (before-some again)
 
   pub head-small : x .code < 10000000
   unfolding moved-to
@@ -78,26 +96,29 @@ module _ {f : ℕ} {sizes : Sizes} {text names : List ℕ} {table table₁ : Lis
   pub ready-headed : {v : Walk} → v ≡ one-more x 0 → Ready sizes text names v allow
   ready-headed e = let a = past-head in rw (e, b .next .moved) (ready-body ready (b .laid) (x .at) (a .later) (a .inside) (a .clean))
 
-  pub body-small : {v y : Walk} {q : Read} (names₂ : List ℕ) (table₂ : List ℤ) → v ≡ one-more x 0 → q ≡ Done y → Reads-command text names table₁ v allow q names₂ table₂ → y .code < 10000000
-  unfolding Reads
-  body-small names₂ table₂ e d h = let g = rw d at h in counts-fit (ready-headed e) (g .2) (g .1 .inside) .0
+-- and a body after them, by the walk to y
+pub record Bodied (again : Bool) (text names : List ℕ) (table : List ℤ) (w : Walk) (allow : ℕ) (names₂ : List ℕ) (table₂ : List ℤ) (x y : Walk) : Type 0 where
+  pub table₁ : List ℤ
+  pub head : Headed again text names table w allow table₁ x
+  pub body : Got command-way text names table₁ (one-more x 0) allow names₂ table₂ y
 
-module _ {sizes : Sizes} {text names : List ℕ} {table table₁ : List ℤ} {w x y : Walk} {allow : ℕ} (names₂ : List ℕ) (table₂ : List ℤ) (ready : Ready sizes text names w allow) where
-  pub when-read : {v : Walk} {q : Read} (b : Headed 19 text names table w allow table₁ x) → v ≡ one-more x 0 → q ≡ Done y → Reads-command text names table₁ v allow q names₂ table₂
-      → Reads-when text names table w allow (Done (needing y (max (x .need) (y .need)))) names₂ (put table₂ (x .code) (pos 6 ∷ pos (y .code) ∷ []))
-  unfolding Reads moved-to one-more needing
-  when-read b e d h =
-      let g = rw (e, b .next .moved, d) at h in
-      rw (b .next .moved)
-      (when (b .test) (g .0), when-leads _ _ (b .passed) (b .next .met) .passes (g .0) (g .1), lays-when (x .at) (past-head (λ z. omega arith) ready b .later) (b .laid) (g .2))
+pub bodied : {again : Bool} {text names names₂ : List ℕ} {table table₁ table₂ : List ℤ} {w x v y : Walk} {allow : ℕ} {q : Read} → Headed again text names table w allow table₁ x → v ≡ one-more x 0 → q ≡ Done y → Reads-command text names table₁ v allow q names₂ table₂ → Bodied again text names table w allow names₂ table₂ x y
+bodied b e d h = record { table₁ = _; head = b; body = got command-way d (rw e at h) }
 
-  pub while-read : {v : Walk} {q : Read} (b : Headed 3 text names table w allow table₁ x) → v ≡ one-more x 0 → q ≡ Done y → Reads-command text names table₁ v allow q names₂ table₂
-      → Reads-while text names table w allow (Done (one-more y (max (x .need) (y .need)))) names₂ (put (put table₂ (x .code) (pos 6 ∷ pos (y .code + 1) ∷ [])) (y .code) (pos 5 ∷ pos (w .code) ∷ []))
+module _ {again : Bool} {sizes : Sizes} {text names names₂ : List ℕ} {table table₂ : List ℤ} {w x y : Walk} {allow : ℕ} (ready : Ready sizes text names w allow) (b : Bodied again text names table w allow names₂ table₂ x y) where
+  pub body-small : y .code < 10000000
+  body-small = counts-got (ready-headed ready (b .head) refl) (b .body) .0
+
+  pub end-small : (n : ℕ) → ended-walk again y n .code < 2147483648
+  end-small n = omega (arith, body-small, ended-code again y n)
+
+  pub guarded-read : let u = ended-walk again y (max (x .need) (y .need)) in Reads-guarded again text names table w allow (Done u) names₂ (put (ended-table again table₂ (y .code) (w .code)) (x .code) (pos 6 ∷ pos (u .code) ∷ []))
   unfolding Reads moved-to one-more
-  while-read b e d h =
-      let g = rw (e, b .next .moved, d) at h in
-      rw (b .next .moved)
-      (while (b .test) (g .0), while-leads _ _ (b .passed) (b .next .met) .passes (g .0) (g .1), lays-while (x .at) (past-head (λ z. omega arith) ready b .later) (b .laid) (g .2))
+  guarded-read =
+      let h = b .head in
+      let g = rw (h .next .moved) at (b .body) in
+      rw (h .next .moved)
+      (guarded again (h .test) (g .what), rw (ended-at again) (guarded-leads _ _ (h .passed) again (h .next .met) .passes (g .what) (g .passed)), lays-guarded again (x .at) (past-head ready h .later) (h .laid) (g .laid))
 
 -- ---- the commands of a block
 

@@ -19,8 +19,9 @@ use Rattle.compiler.specs.declared.walk.Walk.{Walk}
 use Rattle.compiler.specs.declared.walk.Read.{Read}
 use Rattle.compiler.specs.Lexing.{Lexes}
 use Rattle.compiler.specs.Scopes.{name-at}
-use Rattle.compiler.specs.Steps.{fixed-number}
-use Rattle.compiler.specs.Walks.{Reads, Reads-nested, Reads-when, Reads-while, Reads-block, want-quoted}
+use Rattle.compiler.specs.Steps.{fixed-number, before-body}
+use Rattle.compiler.specs.Walks.{Reads, Reads-nested, Reads-guarded, Reads-block, want-quoted, want-guarded}
+use Rattle.compiler.proofs.Lays.{guarded}
 use Rattle.compiler.proofs.Looked.{Seen, quoted-at, seen-name, seen-string, seen-fixed, no-fixed, no-name, no-string}
 use Rattle.compiler.proofs.Reading.{from-via, ended, Comes, Stuck, comes-on, comes-stuck, comes-within, stuck-within, alike, onward, none, too-deep, Way, Passed, Barred, comes, passes, stuck, refuses, Leads, leads, begins, refuses-within, Met, Missed}
 use Rattle.compiler.proofs.Passes.{expression-way, condition-way}
@@ -49,18 +50,15 @@ read-way = command-from want-read
 abbrev pub assign-way : Name → Way command (Sen Name command)
 assign-way x = command-from (want-becomes x)
 
-abbrev pub when-way : Way command (Sen Name command)
-when-way = command-from (λ a. want-condition (in-when a))
-
-abbrev pub while-way : Way command (Sen Name command)
-while-way = command-from (λ a. want-condition (in-while a))
+abbrev pub guarded-way : Bool → Way command (Sen Name command)
+guarded-way again = command-from (want-guarded again)
 
 abbrev pub block-way : Way command (Sen Name command)
 block-way = command-from (λ a. want-command (in-block a))
 
 -- after IF, WHILE or `{`, by its number
 abbrev pub nested-way : ℕ → Way command (Sen Name command)
-nested-way f = command-from (cond (eqb f 6) (λ a. want-condition (in-when a)) (cond (eqb f 21) (λ a. want-condition (in-while a)) (λ a. want-command (in-block a))))
+nested-way f = command-from (cond (eqb f 123) (λ a. want-command (in-block a)) (want-guarded (eqb f 21)))
 
 abbrev pub block-so-far : Way command (Sen Name commands)
 block-so-far = record { start = λ a. want-command (in-block a); stop = at-command-or-brace }
@@ -151,41 +149,32 @@ module _ {text : List ℕ} {at m : ℕ} (allow : ℕ) (c : Sen Name condition) (
       (onward s (λ a. after-condition c (inner a)) g (λ a. want-command (body a)) (λ a. rw e (to a)) (λ a. rw (d′ a) (omega arith))))
       stops)
 
-  no-body : (inner : Around command → Around condition) (w : Fixed)
+  unled : (inner : Around command → Around condition) (w : Fixed)
       → ((a : Around command) → depth (inner a) ≡ suc (depth a))
       → ((a : Around command) (l : Lexeme) → is w l ≡ false → after-condition c (inner a) l ≡ nowhere)
       → {n q : ℕ} → Missed text m (code-of w) n q
       → Barred (command-from (λ a. want-condition (inner a))) text at (suc allow) n q
-  no-body inner w d to miss =
+  unled inner w d to miss =
       rw (miss .refused-4, miss .there)
       (refuses text at (suc allow) (λ a. want-condition (inner a)) 4 (miss .lexeme .place)
       (comes-stuck (comes-within inner (λ a. rw (d a) (omega arith)) (comes p))
       (none (miss .seen) (λ a. after-condition c (inner a)) (λ a. to a (miss .seen .what) (no-fixed (miss .seen) w (miss .number))))))
 
-  pub when-leads : {e : ℕ} → Met text m 19 e → Leads text at e (suc allow) when-way allow command-way (when c)
-  unfolding depth after-condition after-command on is code-of
-  when-leads = body-leads in-when (in-when-body c) (when c) THEN (λ a. refl) (λ a. refl) (λ a. refl) (λ b. refl) refl
+  pub guarded-leads : (again : Bool) {e : ℕ} → Met text m (code-of (before-body again)) e → Leads text at e (suc allow) (guarded-way again) allow command-way (guarded again c)
+  unfolding depth after-condition after-command on is code-of want-guarded before-body guarded
+  guarded-leads true = body-leads in-while (in-while-body c) (while c) DO (λ a. refl) (λ a. refl) (λ a. refl) (λ b. refl) refl
+  guarded-leads false = body-leads in-when (in-when-body c) (when c) THEN (λ a. refl) (λ a. refl) (λ a. refl) (λ b. refl) refl
 
-  pub no-then : {n q : ℕ} → Missed text m 19 n q → Barred when-way text at (suc allow) n q
-  unfolding depth after-condition on code-of
-  no-then = no-body in-when THEN (λ a. refl) (λ a l h. rw h)
-
-  pub while-leads : {e : ℕ} → Met text m 3 e → Leads text at e (suc allow) while-way allow command-way (while c)
-  unfolding depth after-condition after-command on is code-of
-  while-leads = body-leads in-while (in-while-body c) (while c) DO (λ a. refl) (λ a. refl) (λ a. refl) (λ b. refl) refl
-
-  pub no-do : {n q : ℕ} → Missed text m 3 n q → Barred while-way text at (suc allow) n q
-  unfolding depth after-condition on code-of
-  no-do = no-body in-while DO (λ a. refl) (λ a l h. rw h)
+  pub no-body : (again : Bool) {n q : ℕ} → Missed text m (code-of (before-body again)) n q → Barred (guarded-way again) text at (suc allow) n q
+  unfolding depth after-condition on want-guarded before-body
+  no-body true = unled in-while DO (λ a. refl) (λ a l h. rw h)
+  no-body false = unled in-when THEN (λ a. refl) (λ a l h. rw h)
 
 module _ (text : List ℕ) (at allow : ℕ) where
-  pub when-refused : (n p : ℕ) → Barred condition-way text at allow n p → Barred when-way text at (suc allow) n p
-  unfolding depth
-  when-refused n p q = refuses-within text at (suc allow) allow want-condition n p in-when (λ a. omega arith) q
-
-  pub while-refused : (n p : ℕ) → Barred condition-way text at allow n p → Barred while-way text at (suc allow) n p
-  unfolding depth
-  while-refused n p q = refuses-within text at (suc allow) allow want-condition n p in-while (λ a. omega arith) q
+  pub guarded-refused : (again : Bool) (n p : ℕ) → Barred condition-way text at allow n p → Barred (guarded-way again) text at (suc allow) n p
+  unfolding depth want-guarded
+  guarded-refused true n p q = refuses-within text at (suc allow) allow want-condition n p in-while (λ a. omega arith) q
+  guarded-refused false n p q = refuses-within text at (suc allow) allow want-condition n p in-when (λ a. omega arith) q
 
   pub block-first : Leads text at at (suc allow) block-so-far allow command-way single
   unfolding depth after-command
@@ -212,13 +201,12 @@ pub reads-nested : (f : ℕ) (text names : List ℕ) (table : List ℤ) (w : Wal
     → Reads-nested f text names table w allow r names′ table′
     → Reads command (nested-way f .start) after-command text names table w (suc allow) r names′ table′
 unfolding Reads-nested
-reads-nested f text names table w allow r names′ table′ h = by-test (eqb f 6) (eqb f 21) h
+reads-nested f text names table w allow r names′ table′ h = by-test (eqb f 123) h
   where
-    by-test : (b c : Bool) → cond b Reads-when (cond c Reads-while Reads-block) text names table w allow r names′ table′
-        → Reads command (cond b (λ a. want-condition (in-when a)) (cond c (λ a. want-condition (in-while a)) (λ a. want-command (in-block a)))) after-command text names table w (suc allow) r names′ table′
-    by-test true c h = h
-    by-test false true h = h
-    by-test false false h = h
+    by-test : (b : Bool) → cond b Reads-block (Reads-guarded (eqb f 21)) text names table w allow r names′ table′
+        → Reads command (cond b (λ a. want-command (in-block a)) (want-guarded (eqb f 21))) after-command text names table w (suc allow) r names′ table′
+    by-test true h = h
+    by-test false h = h
 
 -- ---- a command by its first lexeme
 
@@ -265,48 +253,26 @@ module _ {text : List ℕ} {at : ℕ} {r : code.Lexeme} (s : Seen text at r) (al
     to : (a : Around command) → at-command a (s .what) ≡ start a
     deeper : (a : Around command) → verdict (start a) ≡ goes-on (suc (depth a))
 
-  opens-leads : (start : Around command → State) → Opens start → (allow ≡ 0 → ⊥) → Leads text at (r .end) allow command-way (suc (allow - 1)) (command-from start) (λ m. m)
+  -- each of the three, by its number
+  opens-nested : OneOf (6 ∷ 21 ∷ 123 ∷ []) (fixed-number (r .kind)) → Opens (nested-way (fixed-number (r .kind)) .start)
+  unfolding is at-command on on-name code-of verdict depth want-guarded
+  opens-nested (inl h) = let e = seen-fixed s IF h in rw h (record { going = rw e; to = λ a. rw e; deeper = λ a. refl })
+  opens-nested (inr (inl h)) = let e = seen-fixed s WHILE h in rw h (record { going = rw e; to = λ a. rw e; deeper = λ a. refl })
+  opens-nested (inr (inr h)) = let e = seen-fixed s open-brace h in rw h (record { going = rw e; to = λ a. rw e; deeper = λ a. refl })
+
+  pub nested-begins : OneOf (6 ∷ 21 ∷ 123 ∷ []) (fixed-number (r .kind)) → (allow ≡ 0 → ⊥) → Leads text at (r .end) allow command-way (suc (allow - 1)) (nested-way (fixed-number (r .kind))) (λ m. m)
   unfolding step
-  opens-leads start o z =
+  nested-begins h z =
+      let o = opens-nested h in
       leads (λ a. a) (omega (arith, s .later (o .going))) (λ a. omega arith)
-      (onward s (λ a. step (want-command a)) (o .going) start (o .to) (λ a. rw (o .deeper a) (omega arith)))
+      (onward s (λ a. step (want-command a)) (o .going) (nested-way (fixed-number (r .kind)) .start) (o .to) (λ a. rw (o .deeper a) (omega arith)))
       (λ m. refl)
 
-  opens-too-deep : (start : Around command → State) → Opens start → allow ≡ 0 → Barred command-way text at allow 5 (r .place)
-  unfolding step
-  opens-too-deep start o z = refuses text at allow want-command 5 (r .place) (too-deep s (λ a. step (want-command a)) start (o .to) (λ a. rw (o .deeper a) (omega arith)))
-
-  opens-when : fixed-number (r .kind) ≡ 6 → Opens (λ a. want-condition (in-when a))
-  unfolding is at-command on on-name code-of verdict depth
-  opens-when h = let e = seen-fixed s IF h in record { going = rw e; to = λ a. rw e; deeper = λ a. refl }
-
-  opens-while : fixed-number (r .kind) ≡ 21 → Opens (λ a. want-condition (in-while a))
-  unfolding is at-command on on-name code-of verdict depth
-  opens-while h = let e = seen-fixed s WHILE h in record { going = rw e; to = λ a. rw e; deeper = λ a. refl }
-
-  opens-block : fixed-number (r .kind) ≡ 123 → Opens (λ a. want-command (in-block a))
-  unfolding is at-command on on-name code-of verdict depth
-  opens-block h = let e = seen-fixed s open-brace h in record { going = rw e; to = λ a. rw e; deeper = λ a. refl }
-
-  pub when-begins : fixed-number (r .kind) ≡ 6 → (allow ≡ 0 → ⊥) → Leads text at (r .end) allow command-way (suc (allow - 1)) when-way (λ m. m)
-  when-begins h = opens-leads _ (opens-when h)
-
-  pub while-begins : fixed-number (r .kind) ≡ 21 → (allow ≡ 0 → ⊥) → Leads text at (r .end) allow command-way (suc (allow - 1)) while-way (λ m. m)
-  while-begins h = opens-leads _ (opens-while h)
-
-  pub block-begins : fixed-number (r .kind) ≡ 123 → (allow ≡ 0 → ⊥) → Leads text at (r .end) allow command-way (suc (allow - 1)) block-way (λ m. m)
-  block-begins h = opens-leads _ (opens-block h)
-
-  -- each of the three, by its number
-  pub nested-begins : OneOf (6 ∷ 21 ∷ 123 ∷ []) (fixed-number (r .kind)) → (allow ≡ 0 → ⊥) → Leads text at (r .end) allow command-way (suc (allow - 1)) (nested-way (fixed-number (r .kind))) (λ m. m)
-  nested-begins (inl h) z = rw h (when-begins h z)
-  nested-begins (inr (inl h)) z = rw h (while-begins h z)
-  nested-begins (inr (inr h)) z = rw h (block-begins h z)
-
   pub nested-too-deep : OneOf (6 ∷ 21 ∷ 123 ∷ []) (fixed-number (r .kind)) → allow ≡ 0 → Barred command-way text at allow 5 (r .place)
-  nested-too-deep (inl h) = opens-too-deep _ (opens-when h)
-  nested-too-deep (inr (inl h)) = opens-too-deep _ (opens-while h)
-  nested-too-deep (inr (inr h)) = opens-too-deep _ (opens-block h)
+  unfolding step
+  nested-too-deep h z =
+      let o = opens-nested h in
+      refuses text at allow want-command 5 (r .place) (too-deep s (λ a. step (want-command a)) (nested-way (fixed-number (r .kind)) .start) (o .to) (λ a. rw (o .deeper a) (omega arith)))
 
   pub no-command : (r .kind ≡ kind.Name → ⊥)
       → (fixed-number (r .kind) ≡ 4 → ⊥) → (fixed-number (r .kind) ≡ 8 → ⊥) → (fixed-number (r .kind) ≡ 12 → ⊥) → (fixed-number (r .kind) ≡ 13 → ⊥) → (fixed-number (r .kind) ≡ 14 → ⊥) → (fixed-number (r .kind) ≡ 16 → ⊥)

@@ -14,33 +14,33 @@ use lib.ListN.{length}
 use Rattle.sentence.specs.Sentences.{error}
 use Rattle.compiler.specs.Steps.{moved-to, one-more, needing}
 use Rattle.compiler.specs.Walks.{Reads, Reads-nested}
-use Rattle.compiler.proofs.Bodies.{seen-first, past-fixed, past-name, reads-past, Headed, headed, head-small, ready-headed, body-small, when-read, while-read, So-far, so-far-one, ready-so-far, so-far-later, so-far-more, so-far-closed}
-use Rattle.compiler.proofs.Commands.{when-leads, while-leads, block-more, when-refused, while-refused, no-then, no-do, block-first, reads-nested, error-read, assign-begins, declare-begins, print-begins, line-begins, string-begins, read-begins, nested-begins, nested-too-deep, no-command}
+use Rattle.compiler.proofs.Bodies.{seen-first, past-fixed, past-name, reads-past, Headed, headed, head-small, ready-headed, Bodied, bodied, body-small, end-small, guarded-read, So-far, so-far-one, ready-so-far, so-far-later, so-far-more, so-far-closed}
+use Rattle.compiler.proofs.Commands.{guarded-leads, block-more, guarded-refused, no-body, block-first, reads-nested, error-read, assign-begins, declare-begins, print-begins, line-begins, string-begins, read-begins, nested-begins, nested-too-deep, no-command}
 use Rattle.compiler.proofs.Lays.{lays-error}
 use Rattle.compiler.proofs.Looked.{seen}
 use Rattle.compiler.proofs.Reading.{missed, clean-passed}
 use Rattle.compiler.proofs.Expected.{ready-past}
 use Rattle.compiler.proofs.Others.{not-name}
+use Rattle.compiler.proofs.Replies.{code-fits}
 use Rattle.compiler.proofs.Stores.{count-fits}
 use borrow.Fn.Kinds.{In}
 use borrow.Fn.PlainCycle.{Measures, is, falls, and}
 use Rattle.compiler.proofs.command.block.Reads as block
 use Rattle.compiler.proofs.command.block.Kinds as block-kinds
-use Rattle.compiler.proofs.command.+block+command+if_command+nested+while_command.Lts-block as block-lts
+use Rattle.compiler.proofs.command.+block+command+guarded+nested.Lts-block as block-lts
 use Rattle.compiler.proofs.command.command.Reads as command
 use Rattle.compiler.proofs.command.command.Kinds as command-kinds
-use Rattle.compiler.proofs.command.+block+command+if_command+nested+while_command.Lts-command as command-lts
-use Rattle.compiler.proofs.command.if_command.Reads as if-command
-use Rattle.compiler.proofs.command.if_command.Kinds as if-command-kinds
-use Rattle.compiler.proofs.command.+block+command+if_command+nested+while_command.Lts-if_command as if-command-lts
+use Rattle.compiler.proofs.command.+block+command+guarded+nested.Lts-command as command-lts
+use Rattle.compiler.proofs.command.guarded.Reads as guarded
+use Rattle.compiler.proofs.command.guarded.Kinds as guarded-kinds
+use Rattle.compiler.proofs.command.+block+command+guarded+nested.Lts-guarded as guarded-lts
 use Rattle.compiler.proofs.command.nested.Reads as nested
 use Rattle.compiler.proofs.command.nested.Kinds as nested-kinds
-use Rattle.compiler.proofs.command.+block+command+if_command+nested+while_command.Lts-nested as nested-lts
-use Rattle.compiler.proofs.command.while_command.Reads as while-command
-use Rattle.compiler.proofs.command.while_command.Kinds as while-command-kinds
-use Rattle.compiler.proofs.command.+block+command+if_command+nested+while_command.Lts-while_command as while-command-lts
+use Rattle.compiler.proofs.command.+block+command+guarded+nested.Lts-nested as nested-lts
 use Rattle.compiler.proofs.command.assign.Reads as assign-reads
+use Rattle.compiler.proofs.command.before_body.Reads as before-body-reads
 use Rattle.compiler.proofs.command.declare.Reads as declare-reads
+use Rattle.compiler.proofs.command.ended.Reads as ended-reads
 use Rattle.compiler.proofs.command.print_int.Reads as print-int-reads
 use Rattle.compiler.proofs.command.print_string.Reads as print-string-reads
 use Rattle.compiler.proofs.command.read.Reads as read-reads
@@ -55,10 +55,10 @@ use Rattle.compiler.proofs.walk.moved.Reads as moved-reads
 use Rattle.compiler.proofs.walk.put.Reads as put-reads
 use Rattle.compiler.proofs.walk.skipped.Reads as skipped-reads
 use Rattle.compiler.proofs.walk.with_need.Reads as with-need-reads
-use Rattle.compiler.proofs.command.+block+command+if_command+nested+while_command.{
+use Rattle.compiler.proofs.command.+block+command+guarded+nested.{
   statement,
 }
-use Rattle.compiler.proofs.command.+block+command+if_command+nested+while_command.Tie.{
+use Rattle.compiler.proofs.command.+block+command+guarded+nested.Tie.{
   close,
 }
 
@@ -68,14 +68,11 @@ abbrev μ-block : Measures 3 block-kinds.ps ℕ
 abbrev μ-command : Measures 3 command-kinds.ps ℕ
 μ-command κs a = a .1 .1 .1 .1 .0 * 3
 
-abbrev μ-if-command : Measures 3 if-command-kinds.ps ℕ
-μ-if-command κs a = a .1 .1 .1 .1 .0 * 3 + 1
+abbrev μ-guarded : Measures 3 guarded-kinds.ps ℕ
+μ-guarded κs a = a .1 .1 .1 .1 .1 .0 * 3 + 1
 
 abbrev μ-nested : Measures 3 nested-kinds.ps ℕ
 μ-nested κs a = a .1 .1 .1 .1 .1 .0 * 3 + 2
-
-abbrev μ-while-command : Measures 3 while-command-kinds.ps ℕ
-μ-while-command κs a = a .1 .1 .1 .1 .0 * 3 + 1
 
 abbrev block-at : ℕ → In 3 block-kinds.ps
 block-at t = and 3 block-kinds.ps (is 3 block-kinds.ps μ-block t) block.Pre
@@ -89,13 +86,13 @@ command-at t = and 3 command-kinds.ps (is 3 command-kinds.ps μ-command t) comma
 abbrev command-below : ℕ → In 3 command-kinds.ps
 command-below t = and 3 command-kinds.ps (falls 3 command-kinds.ps _<_ μ-command t) command.Pre
 
-abbrev if-command-at : ℕ → In 3 if-command-kinds.ps
-if-command-at t =
-    and 3 if-command-kinds.ps (is 3 if-command-kinds.ps μ-if-command t) if-command.Pre
+abbrev guarded-at : ℕ → In 3 guarded-kinds.ps
+guarded-at t =
+    and 3 guarded-kinds.ps (is 3 guarded-kinds.ps μ-guarded t) guarded.Pre
 
-abbrev if-command-below : ℕ → In 3 if-command-kinds.ps
-if-command-below t =
-    and 3 if-command-kinds.ps (falls 3 if-command-kinds.ps _<_ μ-if-command t) if-command.Pre
+abbrev guarded-below : ℕ → In 3 guarded-kinds.ps
+guarded-below t =
+    and 3 guarded-kinds.ps (falls 3 guarded-kinds.ps _<_ μ-guarded t) guarded.Pre
 
 abbrev nested-at : ℕ → In 3 nested-kinds.ps
 nested-at t = and 3 nested-kinds.ps (is 3 nested-kinds.ps μ-nested t) nested.Pre
@@ -103,32 +100,17 @@ nested-at t = and 3 nested-kinds.ps (is 3 nested-kinds.ps μ-nested t) nested.Pr
 abbrev nested-below : ℕ → In 3 nested-kinds.ps
 nested-below t = and 3 nested-kinds.ps (falls 3 nested-kinds.ps _<_ μ-nested t) nested.Pre
 
-abbrev while-command-at : ℕ → In 3 while-command-kinds.ps
-while-command-at t =
-    and 3 while-command-kinds.ps (is 3 while-command-kinds.ps μ-while-command t) while-command.Pre
-
-abbrev while-command-below : ℕ → In 3 while-command-kinds.ps
-while-command-below t =
-    and
-    3
-    while-command-kinds.ps
-    (falls 3 while-command-kinds.ps _<_ μ-while-command t)
-    while-command.Pre
-
 abbrev block-claims : ℕ → block-lts.Claims
 block-claims t = (command-below t, command.Post, look-reads.Asked, look-reads.Learnt, fixed-of-reads.Asked, fixed-of-reads.Learnt, close-reads.Asked, close-reads.Learnt, moved-reads.Asked, moved-reads.Learnt, larger-reads.Asked, larger-reads.Learnt, with-need-reads.Asked, with-need-reads.Learnt)
 
 abbrev command-claims : ℕ → command-lts.Claims
 command-claims t = (look-reads.Asked, look-reads.Learnt, moved-reads.Asked, moved-reads.Learnt, assign-reads.Asked, assign-reads.Learnt, fixed-of-reads.Asked, fixed-of-reads.Learnt, emitted-reads.Asked, emitted-reads.Learnt, declare-reads.Asked, declare-reads.Learnt, print-int-reads.Asked, print-int-reads.Learnt, print-string-reads.Asked, print-string-reads.Learnt, read-reads.Asked, read-reads.Learnt, nested-below t, nested.Post)
 
-abbrev if-command-claims : ℕ → if-command-lts.Claims
-if-command-claims t = (condition-reads.Asked, condition-reads.Learnt, expect-reads.Asked, expect-reads.Learnt, skipped-reads.Asked, skipped-reads.Learnt, command-below t, command.Post, put-reads.Asked, put-reads.Learnt, larger-reads.Asked, larger-reads.Learnt, with-need-reads.Asked, with-need-reads.Learnt)
+abbrev guarded-claims : ℕ → guarded-lts.Claims
+guarded-claims t = (condition-reads.Asked, condition-reads.Learnt, before-body-reads.Asked, before-body-reads.Learnt, expect-reads.Asked, expect-reads.Learnt, skipped-reads.Asked, skipped-reads.Learnt, command-below t, command.Post, larger-reads.Asked, larger-reads.Learnt, ended-reads.Asked, ended-reads.Learnt, put-reads.Asked, put-reads.Learnt)
 
 abbrev nested-claims : ℕ → nested-lts.Claims
-nested-claims t = (if-command-below t, if-command.Post, while-command-below t, while-command.Post, block-below t, block.Post)
-
-abbrev while-command-claims : ℕ → while-command-lts.Claims
-while-command-claims t = (condition-reads.Asked, condition-reads.Learnt, expect-reads.Asked, expect-reads.Learnt, skipped-reads.Asked, skipped-reads.Learnt, command-below t, command.Post, put-reads.Asked, put-reads.Learnt, larger-reads.Asked, larger-reads.Learnt, emitted-reads.Asked, emitted-reads.Learnt)
+nested-claims t = (block-below t, block.Post, guarded-below t, guarded.Post)
 
 abbrev block-Inv-loop : block-lts.InvT-loop
 block-Inv-loop text names₀ table₀ w allow done₀ names table done = (length names ≡ length names₀) × (length table ≡ length table₀) × ((names₁ : List ℕ) (table₁ : List ℤ) → So-far text names₁ table₁ w allow names₀ table₀ done₀ → So-far text names₁ table₁ w allow names table done)
@@ -333,97 +315,98 @@ command-returns-10 : (t : ℕ) → command-lts.Need-returns-10 (command-claims t
 unfolding Reads
 command-returns-10 t c = no-command (seen-first _ (c .before .before .before .before .before .before .before .pre .1) (c .before .before .before .before .look .ensures)) _ (not-name (c .before .before .match .keys2)) (λ h. c .match2 .rest .0 .0 .0 .0 .0 .0 .1 (rw (c .before .fixed-of .ensures) h)) (λ h. c .match2 .rest .0 .0 .0 .0 .0 .1 (rw (c .before .fixed-of .ensures) h)) (λ h. c .match2 .rest .0 .0 .0 .0 .1 (rw (c .before .fixed-of .ensures) h)) (λ h. c .match2 .rest .0 .0 .0 .1 (rw (c .before .fixed-of .ensures) h)) (λ h. c .match2 .rest .0 .0 .1 (rw (c .before .fixed-of .ensures) h)) (λ h. c .match2 .rest .0 .1 (rw (c .before .fixed-of .ensures) h)) (λ h. c .match2 .rest .1 (rw (c .before .fixed-of .ensures) h))
 
-if-command-condition-requires : (t : ℕ) → if-command-lts.Need-condition-requires (if-command-claims t) (if-command-at t) if-command.Post
-if-command-condition-requires t c κs = c .before .before .before .before .pre .1
+guarded-condition-requires : (t : ℕ) → guarded-lts.Need-condition-requires (guarded-claims t) (guarded-at t) guarded.Post
+guarded-condition-requires t c κs = c .before .before .before .before .pre .1
 
-if-command-enum-known-r : (t : ℕ) → if-command-lts.Need-enum-known-r (if-command-claims t) (if-command-at t) if-command.Post
-if-command-enum-known-r t c = search needs
+guarded-enum-known-r : (t : ℕ) → guarded-lts.Need-enum-known-r (guarded-claims t) (guarded-at t) guarded.Post
+guarded-enum-known-r t c = search needs
 
-if-command-enum-told : (t : ℕ) → if-command-lts.Need-enum-told (if-command-claims t) (if-command-at t) if-command.Post
-if-command-enum-told t c = search needs
+guarded-enum-told : (t : ℕ) → guarded-lts.Need-enum-told (guarded-claims t) (guarded-at t) guarded.Post
+guarded-enum-told t c = search needs
 
-if-command-same-length : (t : ℕ) → if-command-lts.Need-same-length (if-command-claims t) (if-command-at t) if-command.Post
-if-command-same-length t c = search needs
+guarded-same-length : (t : ℕ) → guarded-lts.Need-same-length (guarded-claims t) (guarded-at t) guarded.Post
+guarded-same-length t c = search needs
 
-if-command-same-length-2 : (t : ℕ) → if-command-lts.Need-same-length-2 (if-command-claims t) (if-command-at t) if-command.Post
-if-command-same-length-2 t c = search needs
+guarded-same-length-2 : (t : ℕ) → guarded-lts.Need-same-length-2 (guarded-claims t) (guarded-at t) guarded.Post
+guarded-same-length-2 t c = search needs
 
-if-command-returns : (t : ℕ) → if-command-lts.Need-returns (if-command-claims t) (if-command-at t) if-command.Post
+guarded-returns : (t : ℕ) → guarded-lts.Need-returns (guarded-claims t) (guarded-at t) guarded.Post
 unfolding Reads
-if-command-returns t c = rw (c .enum-told .given .1) (when-refused _ _ _ _ _ (rw (c .enum-told .given .1) at (c .before .before .before .condition .ensures)))
+guarded-returns t c = rw (c .enum-told .given .1) (guarded-refused _ _ _ _ _ _ (rw (c .enum-told .given .1) at (c .before .before .before .condition .ensures)))
 
-if-command-expect-requires : (t : ℕ) → if-command-lts.Need-expect-requires (if-command-claims t) (if-command-at t) if-command.Post
+guarded-before-body-requires : (t : ℕ) → guarded-lts.Need-before-body-requires (guarded-claims t) (guarded-at t) guarded.Post
+guarded-before-body-requires t c κs = search needs
+
+guarded-expect-requires : (t : ℕ) → guarded-lts.Need-expect-requires (guarded-claims t) (guarded-at t) guarded.Post
 unfolding Reads
-if-command-expect-requires t c κs = clean-passed _ ((rw (c .before .r .given .1) at (c .before .before .before .before .condition .ensures)) .1) (c .before .before .before .before .before .before .before .before .before .pre .1 .clean)
+guarded-expect-requires t c κs = clean-passed _ ((rw (c .before .before .r .given .1) at (c .before .before .before .before .before .condition .ensures)) .1) (c .before .before .before .before .before .before .before .before .before .before .pre .1 .clean)
 
-if-command-enum-known-s : (t : ℕ) → if-command-lts.Need-enum-known-s (if-command-claims t) (if-command-at t) if-command.Post
-if-command-enum-known-s t c = search needs
+guarded-enum-known-s : (t : ℕ) → guarded-lts.Need-enum-known-s (guarded-claims t) (guarded-at t) guarded.Post
+guarded-enum-known-s t c = search needs
 
-if-command-enum-told-2 : (t : ℕ) → if-command-lts.Need-enum-told-2 (if-command-claims t) (if-command-at t) if-command.Post
-if-command-enum-told-2 t c = search needs
+guarded-enum-told-2 : (t : ℕ) → guarded-lts.Need-enum-told-2 (guarded-claims t) (guarded-at t) guarded.Post
+guarded-enum-told-2 t c = search needs
 
-if-command-same-length-3 : (t : ℕ) → if-command-lts.Need-same-length-3 (if-command-claims t) (if-command-at t) if-command.Post
-if-command-same-length-3 t c = search needs
+guarded-same-length-3 : (t : ℕ) → guarded-lts.Need-same-length-3 (guarded-claims t) (guarded-at t) guarded.Post
+guarded-same-length-3 t c = search needs
 
-if-command-same-length-4 : (t : ℕ) → if-command-lts.Need-same-length-4 (if-command-claims t) (if-command-at t) if-command.Post
-if-command-same-length-4 t c = search needs
+guarded-same-length-4 : (t : ℕ) → guarded-lts.Need-same-length-4 (guarded-claims t) (guarded-at t) guarded.Post
+guarded-same-length-4 t c = search needs
 
-if-command-returns-2 : (t : ℕ) → if-command-lts.Need-returns-2 (if-command-claims t) (if-command-at t) if-command.Post
+guarded-returns-2 : (t : ℕ) → guarded-lts.Need-returns-2 (guarded-claims t) (guarded-at t) guarded.Post
 unfolding Reads
-if-command-returns-2 t c = let g = (rw (c .before .before .before .before .r .given .1) at (c .before .before .before .before .before .before .before .condition .ensures)) in rw (c .enum-told2 .given .1) (no-then _ _ (g .1) (missed _ _ _ _ _ _ (clean-passed _ (g .1) (c .before .before .before .before .before .before .before .before .before .before .before .before .pre .1 .clean)) (rw (c .enum-told2 .given .1) at (c .before .before .expect .ensures))))
+guarded-returns-2 t c = let g = (rw (c .before .before .before .before .before .r .given .1) at (c .before .before .before .before .before .before .before .before .condition .ensures)) in rw (c .enum-told2 .given .1) (no-body _ _ (g .1) _ (missed _ _ _ _ _ _ (clean-passed _ (g .1) (c .before .before .before .before .before .before .before .before .before .before .before .before .before .pre .1 .clean)) (rw (c .enum-told2 .given .1, c .before .before .before .before-body .ensures) at (c .before .before .expect .ensures))))
 
--- the condition and THEN
-if-command-head : (t : ℕ) (c : if-command-lts.After-s (if-command-claims t) (if-command-at t) if-command.Post) → Headed 19 (now (c .before .before .before .before .before .before .before .before .before .before .before .before .args .text)) (now (c .before .before .before .before .before .before .before .before .before .before .before .before .args .names)) (now (c .before .before .before .before .before .before .before .before .before .before .before .before .args .table)) (c .before .before .before .before .before .before .before .before .before .before .before .before .args .w) (c .before .before .before .before .before .before .before .before .before .before .before .before .args .allow) (c .before .before .before .before .before .before .before .condition .last .1 .1 .0) (c .s .given .0 .0)
-if-command-head t c = headed (c .before .before .before .before .before .before .before .before .before .before .before .before .pre .1) (c .before .before .before .before .r .given .1) (c .before .before .before .before .before .before .before .condition .ensures) (c .s .given .1) (c .before .before .expect .ensures)
+-- the condition, and the lexeme before the body
+guarded-head : (t : ℕ) (c : guarded-lts.After-s (guarded-claims t) (guarded-at t) guarded.Post) → Headed (c .before .before .before .before .before .before .before .before .before .before .before .before .before .args .again) (now (c .before .before .before .before .before .before .before .before .before .before .before .before .before .args .text)) (now (c .before .before .before .before .before .before .before .before .before .before .before .before .before .args .names)) (now (c .before .before .before .before .before .before .before .before .before .before .before .before .before .args .table)) (c .before .before .before .before .before .before .before .before .before .before .before .before .before .args .w) (c .before .before .before .before .before .before .before .before .before .before .before .before .before .args .allow) (c .before .before .before .before .before .before .before .before .condition .last .1 .1 .0) (c .s .given .0 .0)
+guarded-head t c = headed (c .before .before .before .before .before .before .before .before .before .before .before .before .before .pre .1) (c .before .before .before .before .before .r .given .1) (c .before .before .before .before .before .before .before .before .condition .ensures) (c .before .before .before .before-body .ensures) (c .s .given .1) (c .before .before .expect .ensures)
 
-if-command-skipped-requires : (t : ℕ) → if-command-lts.Need-skipped-requires (if-command-claims t) (if-command-at t) if-command.Post
-if-command-skipped-requires t c κs = head-small (λ z. omega arith) (c .before .before .before .before .before .before .before .before .before .before .before .before .before .before .before .pre .1) (if-command-head t (c .before .before .before))
+guarded-skipped-requires : (t : ℕ) → guarded-lts.Need-skipped-requires (guarded-claims t) (guarded-at t) guarded.Post
+guarded-skipped-requires t c κs = head-small (c .before .before .before .before .before .before .before .before .before .before .before .before .before .before .before .before .pre .1) (guarded-head t (c .before .before .before))
 
-if-command-command-requires : (t : ℕ) → if-command-lts.Need-command-requires (if-command-claims t) (if-command-at t) if-command.Post
-if-command-command-requires t c κs = (omega (arith, c .before .before .before .before .before .before .before .before .before .before .before .before .before .before .before .before .pre .0), ready-headed (λ z. omega arith) (c .before .before .before .before .before .before .before .before .before .before .before .before .before .before .before .before .pre .1) (if-command-head t (c .before .before .before .before)) (c .skipped .ensures))
+guarded-command-requires : (t : ℕ) → guarded-lts.Need-command-requires (guarded-claims t) (guarded-at t) guarded.Post
+guarded-command-requires t c κs = (omega (arith, c .before .before .before .before .before .before .before .before .before .before .before .before .before .before .before .before .before .pre .0), ready-headed (c .before .before .before .before .before .before .before .before .before .before .before .before .before .before .before .before .before .pre .1) (guarded-head t (c .before .before .before .before)) (c .skipped .ensures))
 
-if-command-enum-known-t : (t : ℕ) → if-command-lts.Need-enum-known-t (if-command-claims t) (if-command-at t) if-command.Post
-if-command-enum-known-t t c = search needs
+guarded-enum-known-t : (t : ℕ) → guarded-lts.Need-enum-known-t (guarded-claims t) (guarded-at t) guarded.Post
+guarded-enum-known-t t c = search needs
 
-if-command-enum-told-3 : (t : ℕ) → if-command-lts.Need-enum-told-3 (if-command-claims t) (if-command-at t) if-command.Post
-if-command-enum-told-3 t c = search needs
+guarded-enum-told-3 : (t : ℕ) → guarded-lts.Need-enum-told-3 (guarded-claims t) (guarded-at t) guarded.Post
+guarded-enum-told-3 t c = search needs
 
-if-command-same-length-5 : (t : ℕ) → if-command-lts.Need-same-length-5 (if-command-claims t) (if-command-at t) if-command.Post
-if-command-same-length-5 t c = search needs
+guarded-same-length-5 : (t : ℕ) → guarded-lts.Need-same-length-5 (guarded-claims t) (guarded-at t) guarded.Post
+guarded-same-length-5 t c = search needs
 
-if-command-same-length-6 : (t : ℕ) → if-command-lts.Need-same-length-6 (if-command-claims t) (if-command-at t) if-command.Post
-if-command-same-length-6 t c = search needs
+guarded-same-length-6 : (t : ℕ) → guarded-lts.Need-same-length-6 (guarded-claims t) (guarded-at t) guarded.Post
+guarded-same-length-6 t c = search needs
 
-if-command-returns-3 : (t : ℕ) → if-command-lts.Need-returns-3 (if-command-claims t) (if-command-at t) if-command.Post
+guarded-returns-3 : (t : ℕ) → guarded-lts.Need-returns-3 (guarded-claims t) (guarded-at t) guarded.Post
 unfolding Reads one-more
-if-command-returns-3 t c = let b = (if-command-head t (c .before .before .before .before .before .before .before .before .before .before)) in rw (c .enum-told3 .given .1) (when-leads _ _ (b .passed) (b .next .met) .refuses _ _ (rw (c .before .before .before .before .before .before .skipped .ensures, c .enum-told3 .given .1) at (c .before .before .before .before .before .command .ensures)))
+guarded-returns-3 t c = let b = guarded-head t (c .before .before .before .before .before .before .before .before .before .before) in rw (c .enum-told3 .given .1) (guarded-leads _ _ (b .passed) _ (b .next .met) .refuses _ _ (rw (c .before .before .before .before .before .before .skipped .ensures, c .enum-told3 .given .1) at (c .before .before .before .before .before .command .ensures)))
 
-if-command-cast-put : (t : ℕ) → if-command-lts.Need-cast-put (if-command-claims t) (if-command-at t) if-command.Post
-if-command-cast-put t c = count-fits (omega (arith, body-small (λ z. omega arith) (c .before .before .before .before .before .before .before .before .before .before .before .before .before .before .before .before .before .before .before .before .before .before .before .before .before .pre .1) (if-command-head t (c .before .before .before .before .before .before .before .before .before .before .before .before .before)) _ _ (c .before .before .before .before .before .before .before .before .before .skipped .ensures) (c .before .before .before .t .given .1) (c .before .before .before .before .before .before .before .before .command .ensures)))
+-- and the body
+guarded-body : (t : ℕ) (c : guarded-lts.After-t (guarded-claims t) (guarded-at t) guarded.Post) → Bodied (c .before .before .before .before .before .before .before .before .before .before .before .before .before .before .before .before .before .before .before .before .before .before .before .args .again) (now (c .before .before .before .before .before .before .before .before .before .before .before .before .before .before .before .before .before .before .before .before .before .before .before .args .text)) (now (c .before .before .before .before .before .before .before .before .before .before .before .before .before .before .before .before .before .before .before .before .before .before .before .args .names)) (now (c .before .before .before .before .before .before .before .before .before .before .before .before .before .before .before .before .before .before .before .before .before .before .before .args .table)) (c .before .before .before .before .before .before .before .before .before .before .before .before .before .before .before .before .before .before .before .before .before .before .before .args .w) (c .before .before .before .before .before .before .before .before .before .before .before .before .before .before .before .before .before .before .before .before .before .before .before .args .allow) (c .before .before .before .before .before .command .last .1 .0) (c .before .before .before .before .before .command .last .1 .1 .0) (c .before .before .before .before .before .before .before .before .before .before .s .given .0 .0) (c .t .given .0 .0)
+guarded-body t c = bodied (guarded-head t (c .before .before .before .before .before .before .before .before .before .before)) (c .before .before .before .before .before .before .skipped .ensures) (c .t .given .1) (c .before .before .before .before .before .command .ensures)
 
-if-command-put-requires : (t : ℕ) → if-command-lts.Need-put-requires (if-command-claims t) (if-command-at t) if-command.Post
-if-command-put-requires t c κs = search needs
+guarded-larger-requires : (t : ℕ) → guarded-lts.Need-larger-requires (guarded-claims t) (guarded-at t) guarded.Post
+guarded-larger-requires t c κs = search needs
 
-if-command-larger-requires : (t : ℕ) → if-command-lts.Need-larger-requires (if-command-claims t) (if-command-at t) if-command.Post
-if-command-larger-requires t c κs = search needs
+guarded-ended-requires : (t : ℕ) → guarded-lts.Need-ended-requires (guarded-claims t) (guarded-at t) guarded.Post
+guarded-ended-requires t c κs = (body-small (c .before .before .before .before .before .before .before .before .before .before .before .before .before .before .before .before .before .before .before .before .before .before .before .before .before .before .pre .1) (guarded-body t (c .before .before .before)), code-fits (c .before .before .before .before .before .before .before .before .before .before .before .before .before .before .before .before .before .before .before .before .before .before .before .before .before .before .pre .1))
 
-if-command-with-need-requires : (t : ℕ) → if-command-lts.Need-with-need-requires (if-command-claims t) (if-command-at t) if-command.Post
-if-command-with-need-requires t c κs = search needs
+guarded-cast-put : (t : ℕ) → guarded-lts.Need-cast-put (guarded-claims t) (guarded-at t) guarded.Post
+guarded-cast-put t c = count-fits (rw (c .before .before .before .ended .ensures .0) (end-small (c .before .before .before .before .before .before .before .before .before .before .before .before .before .before .before .before .before .before .before .before .before .before .before .before .before .before .before .before .before .before .pre .1) (guarded-body t (c .before .before .before .before .before .before .before)) _))
 
-if-command-same-length-7 : (t : ℕ) → if-command-lts.Need-same-length-7 (if-command-claims t) (if-command-at t) if-command.Post
-if-command-same-length-7 t c = search needs
+guarded-put-requires : (t : ℕ) → guarded-lts.Need-put-requires (guarded-claims t) (guarded-at t) guarded.Post
+guarded-put-requires t c κs = search needs
 
-if-command-same-length-8 : (t : ℕ) → if-command-lts.Need-same-length-8 (if-command-claims t) (if-command-at t) if-command.Post
-if-command-same-length-8 t c = omega (arith, c .before .before .before .put .kept .0, c .before .before .before .before .before .before .before .before .before .before .before .before .command .kept .1 .1 .0, c .before .before .before .before .before .before .before .before .before .before .before .before .before .before .before .before .before .before .before .before .before .before .before .before .condition .kept .1 .1 .0)
+guarded-same-length-7 : (t : ℕ) → guarded-lts.Need-same-length-7 (guarded-claims t) (guarded-at t) guarded.Post
+guarded-same-length-7 t c = search needs
 
-if-command-returns-4 : (t : ℕ) → if-command-lts.Need-returns-4 (if-command-claims t) (if-command-at t) if-command.Post
-if-command-returns-4 t c = rw (c .with-need .ensures, c .before .larger .ensures, c .before .before .before .put .ensures, toZ-ofZ (if-command-cast-put t (c .before .before .before .before))) (when-read _ _ (c .before .before .before .before .before .before .before .before .before .before .before .before .before .before .before .before .before .before .before .before .before .before .before .before .before .before .before .before .before .pre .1) (if-command-head t (c .before .before .before .before .before .before .before .before .before .before .before .before .before .before .before .before .before)) (c .before .before .before .before .before .before .before .before .before .before .before .before .before .skipped .ensures) (c .before .before .before .before .before .before .before .t .given .1) (c .before .before .before .before .before .before .before .before .before .before .before .before .command .ensures))
+guarded-same-length-8 : (t : ℕ) → guarded-lts.Need-same-length-8 (guarded-claims t) (guarded-at t) guarded.Post
+guarded-same-length-8 t c = omega (arith, c .before .put .kept .0, c .before .before .before .before .before .ended .kept .0, c .before .before .before .before .before .before .before .before .before .before .before .before .before .before .command .kept .1 .1 .0, c .before .before .before .before .before .before .before .before .before .before .before .before .before .before .before .before .before .before .before .before .before .before .before .before .before .before .before .condition .kept .1 .1 .0)
 
-nested-if-command-requires : (t : ℕ) → nested-lts.Need-if-command-requires (nested-claims t) (nested-at t) nested.Post
-nested-if-command-requires t c κs = (omega (arith, c .before .before .before .before .before .pre .0), c .before .before .before .before .before .pre .1)
-
-nested-while-command-requires : (t : ℕ) → nested-lts.Need-while-command-requires (nested-claims t) (nested-at t) nested.Post
-nested-while-command-requires t c κs = (omega (arith, c .before .before .before .before .before .pre .0), c .before .before .before .before .before .pre .1)
+guarded-returns-4 : (t : ℕ) → guarded-lts.Need-returns-4 (guarded-claims t) (guarded-at t) guarded.Post
+guarded-returns-4 t c = rw (c .before .put .ensures, toZ-ofZ (guarded-cast-put t (c .before .before)), c .before .before .before .before .before .ended .ensures .0, c .before .before .before .before .before .ended .ensures .1, c .before .before .before .before .before .before .larger .ensures) (guarded-read (c .before .before .before .before .before .before .before .before .before .before .before .before .before .before .before .before .before .before .before .before .before .before .before .before .before .before .before .before .before .before .before .before .pre .1) (guarded-body t (c .before .before .before .before .before .before .before .before .before)))
 
 nested-block-requires : (t : ℕ) → nested-lts.Need-block-requires (nested-claims t) (nested-at t) nested.Post
 nested-block-requires t c κs = (omega (arith, c .before .before .before .before .before .pre .0), c .before .before .before .before .before .pre .1)
@@ -436,7 +419,10 @@ nested-same-length-2 t c = search needs
 
 nested-returns : (t : ℕ) → nested-lts.Need-returns (nested-claims t) (nested-at t) nested.Post
 unfolding Reads-nested
-nested-returns t c = rw (c .before .before .before .before .before .before .match .keys1) (c .before .before .before .if-command .ensures)
+nested-returns t c = rw (c .before .before .before .before .before .before .if1 .taken) (c .before .before .before .block .ensures)
+
+nested-guarded-requires : (t : ℕ) → nested-lts.Need-guarded-requires (nested-claims t) (nested-at t) nested.Post
+nested-guarded-requires t c κs = (omega (arith, c .before .before .before .before .before .pre .0), c .before .before .before .before .before .pre .1)
 
 nested-same-length-3 : (t : ℕ) → nested-lts.Need-same-length-3 (nested-claims t) (nested-at t) nested.Post
 nested-same-length-3 t c = search needs
@@ -446,113 +432,11 @@ nested-same-length-4 t c = search needs
 
 nested-returns-2 : (t : ℕ) → nested-lts.Need-returns-2 (nested-claims t) (nested-at t) nested.Post
 unfolding Reads-nested
-nested-returns-2 t c = rw (c .before .before .before .before .before .before .match .keys2) (c .before .before .before .while-command .ensures)
+nested-returns-2 t c = rw (ne-eqb _ _ (c .before .before .before .before .before .before .if1 .left)) (c .before .before .before .guarded .ensures)
 
-nested-same-length-5 : (t : ℕ) → nested-lts.Need-same-length-5 (nested-claims t) (nested-at t) nested.Post
-nested-same-length-5 t c = search needs
-
-nested-same-length-6 : (t : ℕ) → nested-lts.Need-same-length-6 (nested-claims t) (nested-at t) nested.Post
-nested-same-length-6 t c = search needs
-
-nested-returns-3 : (t : ℕ) → nested-lts.Need-returns-3 (nested-claims t) (nested-at t) nested.Post
-unfolding Reads-nested
-nested-returns-3 t c = rw (ne-eqb _ _ (c .before .before .before .before .before .before .match .rest .0 .1), ne-eqb _ _ (c .before .before .before .before .before .before .match .rest .1)) (c .before .before .before .block .ensures)
-
-while-command-condition-requires : (t : ℕ) → while-command-lts.Need-condition-requires (while-command-claims t) (while-command-at t) while-command.Post
-while-command-condition-requires t c κs = c .before .before .before .before .pre .1
-
-while-command-enum-known-r : (t : ℕ) → while-command-lts.Need-enum-known-r (while-command-claims t) (while-command-at t) while-command.Post
-while-command-enum-known-r t c = search needs
-
-while-command-enum-told : (t : ℕ) → while-command-lts.Need-enum-told (while-command-claims t) (while-command-at t) while-command.Post
-while-command-enum-told t c = search needs
-
-while-command-same-length : (t : ℕ) → while-command-lts.Need-same-length (while-command-claims t) (while-command-at t) while-command.Post
-while-command-same-length t c = search needs
-
-while-command-same-length-2 : (t : ℕ) → while-command-lts.Need-same-length-2 (while-command-claims t) (while-command-at t) while-command.Post
-while-command-same-length-2 t c = search needs
-
-while-command-returns : (t : ℕ) → while-command-lts.Need-returns (while-command-claims t) (while-command-at t) while-command.Post
-unfolding Reads
-while-command-returns t c = rw (c .enum-told .given .1) (while-refused _ _ _ _ _ (rw (c .enum-told .given .1) at (c .before .before .before .condition .ensures)))
-
-while-command-expect-requires : (t : ℕ) → while-command-lts.Need-expect-requires (while-command-claims t) (while-command-at t) while-command.Post
-unfolding Reads
-while-command-expect-requires t c κs = clean-passed _ ((rw (c .before .r .given .1) at (c .before .before .before .before .condition .ensures)) .1) (c .before .before .before .before .before .before .before .before .before .pre .1 .clean)
-
-while-command-enum-known-s : (t : ℕ) → while-command-lts.Need-enum-known-s (while-command-claims t) (while-command-at t) while-command.Post
-while-command-enum-known-s t c = search needs
-
-while-command-enum-told-2 : (t : ℕ) → while-command-lts.Need-enum-told-2 (while-command-claims t) (while-command-at t) while-command.Post
-while-command-enum-told-2 t c = search needs
-
-while-command-same-length-3 : (t : ℕ) → while-command-lts.Need-same-length-3 (while-command-claims t) (while-command-at t) while-command.Post
-while-command-same-length-3 t c = search needs
-
-while-command-same-length-4 : (t : ℕ) → while-command-lts.Need-same-length-4 (while-command-claims t) (while-command-at t) while-command.Post
-while-command-same-length-4 t c = search needs
-
-while-command-returns-2 : (t : ℕ) → while-command-lts.Need-returns-2 (while-command-claims t) (while-command-at t) while-command.Post
-unfolding Reads
-while-command-returns-2 t c = let g = (rw (c .before .before .before .before .r .given .1) at (c .before .before .before .before .before .before .before .condition .ensures)) in rw (c .enum-told2 .given .1) (no-do _ _ (g .1) (missed _ _ _ _ _ _ (clean-passed _ (g .1) (c .before .before .before .before .before .before .before .before .before .before .before .before .pre .1 .clean)) (rw (c .enum-told2 .given .1) at (c .before .before .expect .ensures))))
-
--- the condition and DO
-while-command-head : (t : ℕ) (c : while-command-lts.After-s (while-command-claims t) (while-command-at t) while-command.Post) → Headed 3 (now (c .before .before .before .before .before .before .before .before .before .before .before .before .args .text)) (now (c .before .before .before .before .before .before .before .before .before .before .before .before .args .names)) (now (c .before .before .before .before .before .before .before .before .before .before .before .before .args .table)) (c .before .before .before .before .before .before .before .before .before .before .before .before .args .w) (c .before .before .before .before .before .before .before .before .before .before .before .before .args .allow) (c .before .before .before .before .before .before .before .condition .last .1 .1 .0) (c .s .given .0 .0)
-while-command-head t c = headed (c .before .before .before .before .before .before .before .before .before .before .before .before .pre .1) (c .before .before .before .before .r .given .1) (c .before .before .before .before .before .before .before .condition .ensures) (c .s .given .1) (c .before .before .expect .ensures)
-
-while-command-skipped-requires : (t : ℕ) → while-command-lts.Need-skipped-requires (while-command-claims t) (while-command-at t) while-command.Post
-while-command-skipped-requires t c κs = head-small (λ z. omega arith) (c .before .before .before .before .before .before .before .before .before .before .before .before .before .before .before .pre .1) (while-command-head t (c .before .before .before))
-
-while-command-command-requires : (t : ℕ) → while-command-lts.Need-command-requires (while-command-claims t) (while-command-at t) while-command.Post
-while-command-command-requires t c κs = (omega (arith, c .before .before .before .before .before .before .before .before .before .before .before .before .before .before .before .before .pre .0), ready-headed (λ z. omega arith) (c .before .before .before .before .before .before .before .before .before .before .before .before .before .before .before .before .pre .1) (while-command-head t (c .before .before .before .before)) (c .skipped .ensures))
-
-while-command-enum-known-t : (t : ℕ) → while-command-lts.Need-enum-known-t (while-command-claims t) (while-command-at t) while-command.Post
-while-command-enum-known-t t c = search needs
-
-while-command-enum-told-3 : (t : ℕ) → while-command-lts.Need-enum-told-3 (while-command-claims t) (while-command-at t) while-command.Post
-while-command-enum-told-3 t c = search needs
-
-while-command-same-length-5 : (t : ℕ) → while-command-lts.Need-same-length-5 (while-command-claims t) (while-command-at t) while-command.Post
-while-command-same-length-5 t c = search needs
-
-while-command-same-length-6 : (t : ℕ) → while-command-lts.Need-same-length-6 (while-command-claims t) (while-command-at t) while-command.Post
-while-command-same-length-6 t c = search needs
-
-while-command-returns-3 : (t : ℕ) → while-command-lts.Need-returns-3 (while-command-claims t) (while-command-at t) while-command.Post
-unfolding Reads one-more
-while-command-returns-3 t c = let b = (while-command-head t (c .before .before .before .before .before .before .before .before .before .before)) in rw (c .enum-told3 .given .1) (while-leads _ _ (b .passed) (b .next .met) .refuses _ _ (rw (c .before .before .before .before .before .before .skipped .ensures, c .enum-told3 .given .1) at (c .before .before .before .before .before .command .ensures)))
-
-while-command-add-put : (t : ℕ) → while-command-lts.Need-add-put (while-command-claims t) (while-command-at t) while-command.Post
-while-command-add-put t c = omega (arith, body-small (λ z. omega arith) (c .before .before .before .before .before .before .before .before .before .before .before .before .before .before .before .before .before .before .before .before .before .before .before .before .before .pre .1) (while-command-head t (c .before .before .before .before .before .before .before .before .before .before .before .before .before)) _ _ (c .before .before .before .before .before .before .before .before .before .skipped .ensures) (c .before .before .before .t .given .1) (c .before .before .before .before .before .before .before .before .command .ensures))
-
-while-command-cast-put : (t : ℕ) → while-command-lts.Need-cast-put (while-command-claims t) (while-command-at t) while-command.Post
-while-command-cast-put t c = count-fits (omega (arith, body-small (λ z. omega arith) (c .before .before .before .before .before .before .before .before .before .before .before .before .before .before .before .before .before .before .before .before .before .before .before .before .before .pre .1) (while-command-head t (c .before .before .before .before .before .before .before .before .before .before .before .before .before)) _ _ (c .before .before .before .before .before .before .before .before .before .skipped .ensures) (c .before .before .before .t .given .1) (c .before .before .before .before .before .before .before .before .command .ensures)))
-
-while-command-put-requires : (t : ℕ) → while-command-lts.Need-put-requires (while-command-claims t) (while-command-at t) while-command.Post
-while-command-put-requires t c κs = search needs
-
-while-command-cast-emitted : (t : ℕ) → while-command-lts.Need-cast-emitted (while-command-claims t) (while-command-at t) while-command.Post
-while-command-cast-emitted t c = count-fits (omega (arith, c .before .before .before .before .before .before .before .before .before .before .before .before .before .before .before .before .before .before .before .before .before .before .before .before .before .before .before .before .before .pre .1 .short, c .before .before .before .before .before .before .before .before .before .before .before .before .before .before .before .before .before .before .before .before .before .before .before .before .before .before .before .before .before .pre .1 .code, c .before .before .before .before .before .before .before .before .before .before .before .before .before .before .before .before .before .before .before .before .before .before .before .before .before .before .before .before .before .pre .1 .inside))
-
-while-command-larger-requires : (t : ℕ) → while-command-lts.Need-larger-requires (while-command-claims t) (while-command-at t) while-command.Post
-while-command-larger-requires t c κs = search needs
-
-while-command-emitted-requires : (t : ℕ) → while-command-lts.Need-emitted-requires (while-command-claims t) (while-command-at t) while-command.Post
-while-command-emitted-requires t c κs = body-small (λ z. omega arith) (c .before .before .before .before .before .before .before .before .before .before .before .before .before .before .before .before .before .before .before .before .before .before .before .before .before .before .before .before .before .before .pre .1) (while-command-head t (c .before .before .before .before .before .before .before .before .before .before .before .before .before .before .before .before .before .before)) _ _ (c .before .before .before .before .before .before .before .before .before .before .before .before .before .before .skipped .ensures) (c .before .before .before .before .before .before .before .before .t .given .1) (c .before .before .before .before .before .before .before .before .before .before .before .before .before .command .ensures)
-
-while-command-same-length-7 : (t : ℕ) → while-command-lts.Need-same-length-7 (while-command-claims t) (while-command-at t) while-command.Post
-while-command-same-length-7 t c = search needs
-
-while-command-same-length-8 : (t : ℕ) → while-command-lts.Need-same-length-8 (while-command-claims t) (while-command-at t) while-command.Post
-while-command-same-length-8 t c = omega (arith, c .before .emitted .kept .0, c .before .before .before .before .before .before .put .kept .0, c .before .before .before .before .before .before .before .before .before .before .before .before .before .before .before .command .kept .1 .1 .0, c .before .before .before .before .before .before .before .before .before .before .before .before .before .before .before .before .before .before .before .before .before .before .before .before .before .before .before .condition .kept .1 .1 .0)
-
-while-command-returns-4 : (t : ℕ) → while-command-lts.Need-returns-4 (while-command-claims t) (while-command-at t) while-command.Post
-while-command-returns-4 t c = rw (c .before .emitted .ensures .0, c .before .emitted .ensures .1, c .before .before .larger .ensures, c .before .before .before .before .before .before .put .ensures, toZ-ofZ (while-command-cast-put t (c .before .before .before .before .before .before .before)), toZ-ofZ (while-command-cast-emitted t (c .before .before .before))) (while-read _ _ (c .before .before .before .before .before .before .before .before .before .before .before .before .before .before .before .before .before .before .before .before .before .before .before .before .before .before .before .before .before .before .before .before .pre .1) (while-command-head t (c .before .before .before .before .before .before .before .before .before .before .before .before .before .before .before .before .before .before .before .before)) (c .before .before .before .before .before .before .before .before .before .before .before .before .before .before .before .before .skipped .ensures) (c .before .before .before .before .before .before .before .before .before .before .t .given .1) (c .before .before .before .before .before .before .before .before .before .before .before .before .before .before .before .command .ensures))
-
-pub +block+command+if-command+nested+while-command-spec : {M : Type 1} → statement M
-+block+command+if-command+nested+while-command-spec =
-    close μ-block μ-command μ-if-command μ-nested μ-while-command (λ t. block-lts.spec (block-claims t)
+pub +block+command+guarded+nested-spec : {M : Type 1} → statement M
++block+command+guarded+nested-spec =
+    close μ-block μ-command μ-guarded μ-nested (λ t. block-lts.spec (block-claims t)
     (block-at t)
     block.Post
     block-Inv-loop
@@ -622,78 +506,44 @@ pub +block+command+if-command+nested+while-command-spec : {M : Type 1} → state
     (command-same-length-15 t)
     (command-returns-9 t)
     (command-returns-10 t))
-    (λ t. if-command-lts.spec (if-command-claims t)
-    (if-command-at t)
-    if-command.Post
-    (if-command-condition-requires t)
-    (if-command-enum-known-r t)
-    (if-command-enum-told t)
-    (if-command-same-length t)
-    (if-command-same-length-2 t)
-    (if-command-returns t)
-    (if-command-expect-requires t)
-    (if-command-enum-known-s t)
-    (if-command-enum-told-2 t)
-    (if-command-same-length-3 t)
-    (if-command-same-length-4 t)
-    (if-command-returns-2 t)
-    (if-command-skipped-requires t)
-    (if-command-command-requires t)
-    (if-command-enum-known-t t)
-    (if-command-enum-told-3 t)
-    (if-command-same-length-5 t)
-    (if-command-same-length-6 t)
-    (if-command-returns-3 t)
-    (if-command-cast-put t)
-    (if-command-put-requires t)
-    (if-command-larger-requires t)
-    (if-command-with-need-requires t)
-    (if-command-same-length-7 t)
-    (if-command-same-length-8 t)
-    (if-command-returns-4 t))
-    (λ t. nested-lts.spec (nested-claims t)
+    (λ t. guarded-lts.spec (guarded-claims t)
+    (guarded-at t)
+    guarded.Post
+    (guarded-condition-requires t)
+    (guarded-enum-known-r t)
+    (guarded-enum-told t)
+    (guarded-same-length t)
+    (guarded-same-length-2 t)
+    (guarded-returns t)
+    (guarded-before-body-requires t)
+    (guarded-expect-requires t)
+    (guarded-enum-known-s t)
+    (guarded-enum-told-2 t)
+    (guarded-same-length-3 t)
+    (guarded-same-length-4 t)
+    (guarded-returns-2 t)
+    (guarded-skipped-requires t)
+    (guarded-command-requires t)
+    (guarded-enum-known-t t)
+    (guarded-enum-told-3 t)
+    (guarded-same-length-5 t)
+    (guarded-same-length-6 t)
+    (guarded-returns-3 t)
+    (guarded-larger-requires t)
+    (guarded-ended-requires t)
+    (guarded-cast-put t)
+    (guarded-put-requires t)
+    (guarded-same-length-7 t)
+    (guarded-same-length-8 t)
+    (guarded-returns-4 t))
+    λ t. nested-lts.spec (nested-claims t)
     (nested-at t)
     nested.Post
-    (nested-if-command-requires t)
-    (nested-while-command-requires t)
     (nested-block-requires t)
     (nested-same-length t)
     (nested-same-length-2 t)
     (nested-returns t)
+    (nested-guarded-requires t)
     (nested-same-length-3 t)
     (nested-same-length-4 t)
     (nested-returns-2 t)
-    (nested-same-length-5 t)
-    (nested-same-length-6 t)
-    (nested-returns-3 t))
-    λ t. while-command-lts.spec (while-command-claims t)
-    (while-command-at t)
-    while-command.Post
-    (while-command-condition-requires t)
-    (while-command-enum-known-r t)
-    (while-command-enum-told t)
-    (while-command-same-length t)
-    (while-command-same-length-2 t)
-    (while-command-returns t)
-    (while-command-expect-requires t)
-    (while-command-enum-known-s t)
-    (while-command-enum-told-2 t)
-    (while-command-same-length-3 t)
-    (while-command-same-length-4 t)
-    (while-command-returns-2 t)
-    (while-command-skipped-requires t)
-    (while-command-command-requires t)
-    (while-command-enum-known-t t)
-    (while-command-enum-told-3 t)
-    (while-command-same-length-5 t)
-    (while-command-same-length-6 t)
-    (while-command-returns-3 t)
-    (while-command-add-put t)
-    (while-command-cast-put t)
-    (while-command-put-requires t)
-    (while-command-cast-emitted t)
-    (while-command-larger-requires t)
-    (while-command-emitted-requires t)
-    (while-command-same-length-7 t)
-    (while-command-same-length-8 t)
-    (while-command-returns-4 t)
