@@ -109,7 +109,7 @@ module _ {again : Bool} {sizes : Sizes} {text names names₂ : List ℕ} {table 
   pub body-small : y .code < 10000000
   body-small = counts-got (ready-headed ready (b .head) refl) (b .body) .0
 
-  pub end-small : (n : ℕ) → ended-walk again y n .code < 2147483648
+  pub end-small : (n : ℕ) → ended-walk again y n .code ≤ 10000000
   end-small n = omega (arith, body-small, ended-code again y n)
 
   pub guarded-read : let u = ended-walk again y (max (x .need) (y .need)) in Reads-guarded again text names table w allow (Done u) names₂ (put (ended-table again table₂ (y .code) (w .code)) (x .code) (pos 6 ∷ pos (u .code) ∷ []))

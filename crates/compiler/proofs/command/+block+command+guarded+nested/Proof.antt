@@ -394,7 +394,7 @@ guarded-ended-requires : (t : ℕ) → guarded-lts.Need-ended-requires (guarded-
 guarded-ended-requires t c κs = (body-small (c .before .before .before .before .before .before .before .before .before .before .before .before .before .before .before .before .before .before .before .before .before .before .before .before .before .before .pre .1) (guarded-body t (c .before .before .before)), code-fits (c .before .before .before .before .before .before .before .before .before .before .before .before .before .before .before .before .before .before .before .before .before .before .before .before .before .before .pre .1))
 
 guarded-cast-put : (t : ℕ) → guarded-lts.Need-cast-put (guarded-claims t) (guarded-at t) guarded.Post
-guarded-cast-put t c = count-fits (rw (c .before .before .before .ended .ensures .0) (end-small (c .before .before .before .before .before .before .before .before .before .before .before .before .before .before .before .before .before .before .before .before .before .before .before .before .before .before .before .before .before .before .pre .1) (guarded-body t (c .before .before .before .before .before .before .before)) _))
+guarded-cast-put t c = count-fits (rw (c .before .before .before .ended .ensures .0) (omega (arith, end-small (c .before .before .before .before .before .before .before .before .before .before .before .before .before .before .before .before .before .before .before .before .before .before .before .before .before .before .before .before .before .before .pre .1) (guarded-body t (c .before .before .before .before .before .before .before)) (c .before .before .before .before .larger .result))))
 
 guarded-put-requires : (t : ℕ) → guarded-lts.Need-put-requires (guarded-claims t) (guarded-at t) guarded.Post
 guarded-put-requires t c κs = search needs
