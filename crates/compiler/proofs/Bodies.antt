@@ -16,41 +16,40 @@ use Rattle.sentence.specs.Sentences.{Sen, condition, command, commands, block, 
 use Rattle.sentence.specs.Reader.{Around, State, after-command}
 use Rattle.compiler.specs.declared.walk.Walk.{Walk}
 use Rattle.compiler.specs.declared.walk.Read.{Read}
-use Rattle.compiler.specs.declared.walk.Read.the-variants.{Done, Refused}
+use Rattle.compiler.specs.declared.walk.Read.the-variants.{Done}
 use Rattle.compiler.specs.Lexing.{Looks, Expects}
 use Rattle.compiler.specs.Steps.{fixed-number, moved-to, one-more, needing, before-body, ended-walk, ended-table}
 use Rattle.compiler.specs.Tables.{put}
 use Rattle.compiler.specs.Walks.{Lays, Ready, Reads, Reads-command, Reads-condition, Reads-guarded, Reads-block}
-use Rattle.compiler.proofs.Commands.{command-from, command-way, block-so-far, guarded-leads, block-first, block-more, block-closed}
+use Rattle.compiler.proofs.Commands.{command-way, Begins, begun-leads, block-so-far, guarded-leads, block-first, block-more, block-closed}
 use Rattle.compiler.proofs.Expected.{Expected, expected}
 use Rattle.compiler.proofs.Lays.{guarded, lead, lays-guarded, lays-single, lays-then, lays-block, counts-fit, ready-after, ready-body}
-use Rattle.compiler.proofs.Looked.{Seen, seen, no-fixed}
+use Rattle.compiler.proofs.Looked.{Seen, no-fixed}
 use Rattle.compiler.proofs.Passes.{condition-way}
-use Rattle.compiler.proofs.Reading.{Passed, Leads, After, after-fixed, after-name, after-met, clean-passed}
-use Rattle.compiler.proofs.Replies.{Got, got, counts-got}
+use Rattle.compiler.proofs.Reading.{Passed, After, after, after-met, clean-passed}
+use Rattle.compiler.proofs.Replies.{Got, got, handed-on, ready-seen, ready-next, counts-got}
 
 -- ---- the first lexeme of a command
 
-module _ {sizes : Sizes} {text names : List ℕ} {w : Walk} {allow : ℕ} (r : code.Lexeme) (ready : Ready sizes text names w allow) (looks : Looks text (w .at) r) where
-  pub seen-first : Seen text (w .at) r
-  seen-first = seen _ _ _ _ (ready .clean) looks
+-- it was looked at, and the walk x is after it
+pub record First (sizes : Sizes) (text names : List ℕ) (w : Walk) (allow : ℕ) (r : code.Lexeme) (x : Walk) : Type 0 where
+  pub ready : Ready sizes text names w allow
+  pub looks : Looks text (w .at) r
+  pub moved : x ≡ moved-to w (r .end)
 
-  pub past-fixed : {f : ℕ} → f ≡ fixed-number (r .kind) → (f ≡ 0 → ⊥) → After sizes text (w .at) (r .end)
-  past-fixed e h = after-fixed _ (ready .clean) seen-first (λ z. h (e ∙ z))
+module _ {sizes : Sizes} {text names : List ℕ} {w x : Walk} {allow : ℕ} {r : code.Lexeme} (f : First sizes text names w allow r x) where
+  pub first-seen : Seen text (w .at) r
+  first-seen = ready-seen (f .ready) (f .looks)
 
-  pub past-name : r .kind ≡ kind.Name → After sizes text (w .at) (r .end)
-  past-name = after-name _ (ready .clean) seen-first
+  module _ {deeper : ℕ} {start : Around command → State} (b : Begins first-seen deeper start) where
+    -- what the reader of the rest may be called with
+    pub ready-begun : {fewer : ℕ} → fewer ≤ allow → Ready sizes text names x fewer
+    ready-begun h = rw (f .moved) (ready-next (f .ready) _ h (after sizes (f .ready .clean) first-seen (b .going)))
 
--- the command is what was read after it
-pub reads-past : {start : Around command → State} {allow allow′ e : ℕ} {sizes : Sizes} {text : List ℕ} {v : Walk} (names : List ℕ) (table : List ℤ) (w : Walk) (q : Read) (names′ : List ℕ) (table′ : List ℤ)
-    → After sizes text (w .at) e → v ≡ moved-to w e → Leads text (w .at) e allow command-way allow′ (command-from start) (λ m. m)
-    → Reads command start after-command text names table v allow′ q names′ table′ → Reads-command text names table w allow q names′ table′
-unfolding Reads moved-to
-reads-past {start} {allow} {allow′} {e} {text} names table w q names′ table′ a m l h = by q (rw m at h)
-  where
-    by : (q : Read) → Reads command start after-command text names table (moved-to w e) allow′ q names′ table′ → Reads-command text names table w allow q names′ table′
-    by (Done u) (x, p, y) = (x, l .passes x p, lead e (omega (arith, a .later)) y)
-    by (Refused n p) g = l .refuses n p g
+    -- what it reads is the command
+    pub reads-begun : {allow′ : ℕ} (table : List ℤ) (q : Read) (names′ : List ℕ) (table′ : List ℤ) → deeper ≤ allow → allow′ ≡ allow → Reads command start after-command text names table x allow′ q names′ table′ → Reads-command text names table w allow q names′ table′
+    unfolding moved-to
+    reads-begun table q names′ table′ d e h = handed-on (begun-leads first-seen b d e) (λ m v. lead (r .end) (omega (arith, first-seen .later (b .going)))) q (rw (f .moved) at h)
 
 -- ---- a condition, and the lexeme before the body
 

@@ -1,12 +1,12 @@
 -- How commands and Programs are read: a law for each way that their readers come to an answer. Assumes nothing.
 use mathlib.Core.Path.{_≡_, refl, _∙_}
 use mathlib.Core.List.{List, [], _∷_}
-use mathlib.Core.Bool.{Bool, true, false, cond}
+use mathlib.Core.Bool.{Bool, true, false}
 use mathlib.Core.Logic.{inl, inr}
-use Prim.Native.Nat.{ℕ, suc, _-_}
+use Prim.Native.Nat.{ℕ, suc, _+_, _≤_, _<_}
+use native.Mathlib.Nat.{add-zero}
+use native.Mathlib.Numerals.{add-one}
 use native.Mathlib.Omega.{arith}
-use lib.Dec.{eqb}
-use lib.IntN.{ℤ}
 use types.Run.{OneOf}
 use Rattle.lexeme.specs.Answers.{given, refused}
 use Rattle.lexeme.specs.Coded.{code-of}
@@ -15,12 +15,10 @@ use Rattle.lexeme.specs.declared.Kind.the-variants as kind
 use Rattle.lexeme.specs.declared.Lexeme as code
 use Rattle.sentence.specs.Sentences.{Sen, condition, command, commands, print, print-line, print-string, declare, input, assign, error, while, when, block, single, then}
 use Rattle.sentence.specs.Reader.{Around, depth, in-print, in-assign, in-while, in-when, in-while-body, in-when-body, in-block, in-block-after, in-program, State, want-DO, want-expression, want-condition, want-command, want-declared, want-read, want-becomes, got-command, nowhere, is, on, on-name, on-string, at-command, at-command-or-brace, after-command, after-condition, whole-expression, step, verdict, goes-on, read}
-use Rattle.compiler.specs.declared.walk.Walk.{Walk}
-use Rattle.compiler.specs.declared.walk.Read.{Read}
 use Rattle.compiler.specs.Lexing.{Lexes}
 use Rattle.compiler.specs.Scopes.{name-at}
 use Rattle.compiler.specs.Steps.{fixed-number, before-body}
-use Rattle.compiler.specs.Walks.{Reads, Reads-nested, Reads-guarded, Reads-block, want-quoted, want-guarded}
+use Rattle.compiler.specs.Walks.{want-quoted, want-guarded, want-nested}
 use Rattle.compiler.proofs.Lays.{guarded}
 use Rattle.compiler.proofs.Looked.{Seen, quoted-at, seen-name, seen-string, seen-fixed, no-fixed, no-name, no-string}
 use Rattle.compiler.proofs.Reading.{from-via, ended, Comes, Stuck, comes-on, comes-stuck, comes-within, stuck-within, alike, onward, none, too-deep, Way, Passed, Barred, comes, passes, stuck, refuses, Leads, leads, begins, refuses-within, Met, Missed}
@@ -55,10 +53,6 @@ guarded-way again = command-from (want-guarded again)
 
 abbrev pub block-way : Way command (Sen Name command)
 block-way = command-from (λ a. want-command (in-block a))
-
--- after IF, WHILE or `{`, by its number
-abbrev pub nested-way : ℕ → Way command (Sen Name command)
-nested-way f = command-from (cond (eqb f 123) (λ a. want-command (in-block a)) (want-guarded (eqb f 21)))
 
 abbrev pub block-so-far : Way command (Sen Name commands)
 block-so-far = record { start = λ a. want-command (in-block a); stop = at-command-or-brace }
@@ -196,90 +190,70 @@ module _ {text : List ℕ} {at m : ℕ} {r : code.Lexeme} (allow : ℕ) (ms : Se
       passes (omega (arith, p .later, s .later g)) (s .inside g)
       (comes-on (comes p) (onward s (at-command-or-brace ms) g (got-command (block ms)) (λ a. rw e) (λ a. omega arith)))
 
--- what `nested` promises, as one way of reading
-pub reads-nested : (f : ℕ) (text names : List ℕ) (table : List ℤ) (w : Walk) (allow : ℕ) (r : Read) (names′ : List ℕ) (table′ : List ℤ)
-    → Reads-nested f text names table w allow r names′ table′
-    → Reads command (nested-way f .start) after-command text names table w (suc allow) r names′ table′
-unfolding Reads-nested
-reads-nested f text names table w allow r names′ table′ h = by-test (eqb f 123) h
-  where
-    by-test : (b : Bool) → cond b Reads-block (Reads-guarded (eqb f 21)) text names table w allow r names′ table′
-        → Reads command (cond b (λ a. want-command (in-block a)) (want-guarded (eqb f 21))) after-command text names table w (suc allow) r names′ table′
-    by-test true h = h
-    by-test false h = h
-
 -- ---- a command by its first lexeme
 
-module _ {text : List ℕ} {at : ℕ} {r : code.Lexeme} (s : Seen text at r) (allow : ℕ) where
-  pub error-read : fixed-number (r .kind) ≡ 4 → Passed command-way text at (r .end) allow error
+module _ {text : List ℕ} {at : ℕ} {r : code.Lexeme} (s : Seen text at r) where
+  pub error-read : (allow : ℕ) → fixed-number (r .kind) ≡ 4 → Passed command-way text at (r .end) allow error
   unfolding is step at-command on on-name code-of
-  error-read h = let e = seen-fixed s ERROR h in ends-command s allow want-command error (rw e) (λ a. rw e)
+  error-read allow h = let e = seen-fixed s ERROR h in ends-command s allow want-command error (rw e) (λ a. rw e)
 
-  -- the first lexeme leads on, and opens no nesting
-  first-leads : (start : Around command → State) → is end (s .what) ≡ false → ((a : Around command) → at-command a (s .what) ≡ start a) → ((a : Around command) → verdict (start a) ≡ goes-on (depth a)) → Leads text at (r .end) allow command-way allow (command-from start) (λ m. m)
-  unfolding step
-  first-leads start g e d =
-      leads (λ a. a) (omega (arith, s .later g)) (λ a. refl)
-      (onward s (λ a. step (want-command a)) g start e (λ a. rw (d a) (omega arith)))
-      (λ m. refl)
+  -- the lexeme begins a command, and opens so many nestings: what is wanted after it
+  pub record Begins (deeper : ℕ) (start : Around command → State) : Type 0 where
+    pub going : is end (s .what) ≡ false
+    pub to : (a : Around command) → at-command a (s .what) ≡ start a
+    pub deep : (a : Around command) → verdict (start a) ≡ goes-on (depth a + deeper)
 
-  pub assign-begins : r .kind ≡ kind.Name → Leads text at (r .end) allow command-way allow (assign-way (name-at text (r .place))) (λ m. m)
+  begins-fixed : (w : Fixed) (deeper : ℕ) (start : Around command → State) → fixed-number (r .kind) ≡ code-of w → is end (fixed w) ≡ false → ((a : Around command) → at-command a (fixed w) ≡ start a) → ((a : Around command) → verdict (start a) ≡ goes-on (depth a + deeper)) → Begins deeper start
+  begins-fixed w deeper start h g t d = let e = seen-fixed s w h in record { going = rw e g; to = λ a. rw e (t a); deep = d }
+
+  pub begins-assign : r .kind ≡ kind.Name → Begins 0 (want-becomes (name-at text (r .place)))
   unfolding is at-command on on-name verdict
-  assign-begins h = let e = seen-name s h in first-leads (want-becomes (name-at text (r .place))) (rw e) (λ a. rw e) (λ a. refl)
+  begins-assign h = let e = seen-name s h in record { going = rw e; to = λ a. rw e; deep = λ a. rw add-zero }
 
-  pub declare-begins : fixed-number (r .kind) ≡ 8 → Leads text at (r .end) allow command-way allow declare-way (λ m. m)
-  unfolding is at-command on code-of verdict
-  declare-begins h = let e = seen-fixed s INT h in first-leads want-declared (rw e) (λ a. rw e) (λ a. refl)
+  pub begins-declare : fixed-number (r .kind) ≡ 8 → Begins 0 want-declared
+  unfolding is at-command on on-name code-of verdict
+  begins-declare h = begins-fixed INT 0 want-declared h refl (λ a. refl) (λ a. rw add-zero)
 
-  pub print-begins : fixed-number (r .kind) ≡ 12 → Leads text at (r .end) allow command-way allow print-way (λ m. m)
-  unfolding is at-command on code-of verdict depth
-  print-begins h = let e = seen-fixed s PRINTI h in first-leads (λ a. want-expression (in-print a)) (rw e) (λ a. rw e) (λ a. refl)
+  pub begins-print : fixed-number (r .kind) ≡ 12 → Begins 0 (λ a. want-expression (in-print a))
+  unfolding is at-command on on-name code-of verdict depth
+  begins-print h = begins-fixed PRINTI 0 (λ a. want-expression (in-print a)) h refl (λ a. refl) (λ a. rw add-zero)
 
-  pub line-begins : fixed-number (r .kind) ≡ 13 → Leads text at (r .end) allow command-way allow (string-way true) (λ m. m)
-  unfolding is at-command on code-of verdict want-quoted
-  line-begins h = let e = seen-fixed s PRINTLNS h in first-leads (want-quoted true) (rw e) (λ a. rw e) (λ a. refl)
+  pub begins-line : fixed-number (r .kind) ≡ 13 → Begins 0 (want-quoted true)
+  unfolding is at-command on on-name code-of verdict want-quoted
+  begins-line h = begins-fixed PRINTLNS 0 (want-quoted true) h refl (λ a. refl) (λ a. rw add-zero)
 
-  pub string-begins : fixed-number (r .kind) ≡ 14 → Leads text at (r .end) allow command-way allow (string-way false) (λ m. m)
-  unfolding is at-command on code-of verdict want-quoted
-  string-begins h = let e = seen-fixed s PRINTS h in first-leads (want-quoted false) (rw e) (λ a. rw e) (λ a. refl)
+  pub begins-string : fixed-number (r .kind) ≡ 14 → Begins 0 (want-quoted false)
+  unfolding is at-command on on-name code-of verdict want-quoted
+  begins-string h = begins-fixed PRINTS 0 (want-quoted false) h refl (λ a. refl) (λ a. rw add-zero)
 
-  pub read-begins : fixed-number (r .kind) ≡ 16 → Leads text at (r .end) allow command-way allow read-way (λ m. m)
-  unfolding is at-command on code-of verdict
-  read-begins h = let e = seen-fixed s READ h in first-leads want-read (rw e) (λ a. rw e) (λ a. refl)
+  pub begins-read : fixed-number (r .kind) ≡ 16 → Begins 0 want-read
+  unfolding is at-command on on-name code-of verdict
+  begins-read h = begins-fixed READ 0 want-read h refl (λ a. refl) (λ a. rw add-zero)
 
-  -- the first lexeme opens a nesting
-  record Opens (start : Around command → State) : Type 0 where
-    going : is end (s .what) ≡ false
-    to : (a : Around command) → at-command a (s .what) ≡ start a
-    deeper : (a : Around command) → verdict (start a) ≡ goes-on (suc (depth a))
+  pub begins-nested : OneOf (6 ∷ 21 ∷ 123 ∷ []) (fixed-number (r .kind)) → Begins 1 (want-nested (fixed-number (r .kind)))
+  unfolding is at-command on on-name code-of verdict depth want-guarded want-nested
+  begins-nested (inl h) = rw h (begins-fixed IF 1 (want-guarded false) h refl (λ a. refl) (λ a. rw add-one))
+  begins-nested (inr (inl h)) = rw h (begins-fixed WHILE 1 (want-guarded true) h refl (λ a. refl) (λ a. rw add-one))
+  begins-nested (inr (inr h)) = rw h (begins-fixed open-brace 1 (λ a. want-command (in-block a)) h refl (λ a. refl) (λ a. rw add-one))
 
-  -- each of the three, by its number
-  opens-nested : OneOf (6 ∷ 21 ∷ 123 ∷ []) (fixed-number (r .kind)) → Opens (nested-way (fixed-number (r .kind)) .start)
-  unfolding is at-command on on-name code-of verdict depth want-guarded
-  opens-nested (inl h) = let e = seen-fixed s IF h in rw h (record { going = rw e; to = λ a. rw e; deeper = λ a. refl })
-  opens-nested (inr (inl h)) = let e = seen-fixed s WHILE h in rw h (record { going = rw e; to = λ a. rw e; deeper = λ a. refl })
-  opens-nested (inr (inr h)) = let e = seen-fixed s open-brace h in rw h (record { going = rw e; to = λ a. rw e; deeper = λ a. refl })
+  module _ {deeper : ℕ} {start : Around command → State} (b : Begins deeper start) where
+    pub begun-leads : {allow allow′ : ℕ} → deeper ≤ allow → allow′ ≡ allow → Leads text at (r .end) allow command-way allow′ (command-from start) (λ m. m)
+    unfolding step
+    begun-leads d e =
+        leads (λ a. a) (omega (arith, s .later (b .going))) (λ a. omega arith)
+        (onward s (λ a. step (want-command a)) (b .going) start (b .to) (λ a. rw (b .deep a) (omega arith)))
+        (λ m. refl)
 
-  pub nested-begins : OneOf (6 ∷ 21 ∷ 123 ∷ []) (fixed-number (r .kind)) → (allow ≡ 0 → ⊥) → Leads text at (r .end) allow command-way (suc (allow - 1)) (nested-way (fixed-number (r .kind))) (λ m. m)
-  unfolding step
-  nested-begins h z =
-      let o = opens-nested h in
-      leads (λ a. a) (omega (arith, s .later (o .going))) (λ a. omega arith)
-      (onward s (λ a. step (want-command a)) (o .going) (nested-way (fixed-number (r .kind)) .start) (o .to) (λ a. rw (o .deeper a) (omega arith)))
-      (λ m. refl)
+    pub too-deep-begun : {allow : ℕ} → allow < deeper → Barred command-way text at allow 5 (r .place)
+    unfolding step
+    too-deep-begun {allow} d = refuses text at allow want-command 5 (r .place) (too-deep s (λ a. step (want-command a)) start (b .to) (λ a. rw (b .deep a) (omega arith)))
 
-  pub nested-too-deep : OneOf (6 ∷ 21 ∷ 123 ∷ []) (fixed-number (r .kind)) → allow ≡ 0 → Barred command-way text at allow 5 (r .place)
-  unfolding step
-  nested-too-deep h z =
-      let o = opens-nested h in
-      refuses text at allow want-command 5 (r .place) (too-deep s (λ a. step (want-command a)) (nested-way (fixed-number (r .kind)) .start) (o .to) (λ a. rw (o .deeper a) (omega arith)))
-
-  pub no-command : (r .kind ≡ kind.Name → ⊥)
+  pub no-command : (allow : ℕ) → (r .kind ≡ kind.Name → ⊥)
       → (fixed-number (r .kind) ≡ 4 → ⊥) → (fixed-number (r .kind) ≡ 8 → ⊥) → (fixed-number (r .kind) ≡ 12 → ⊥) → (fixed-number (r .kind) ≡ 13 → ⊥) → (fixed-number (r .kind) ≡ 14 → ⊥) → (fixed-number (r .kind) ≡ 16 → ⊥)
       → (OneOf (6 ∷ 21 ∷ 123 ∷ []) (fixed-number (r .kind)) → ⊥)
       → Barred command-way text at allow 4 (r .place)
   unfolding step at-command on code-of
-  no-command n e i p l t g o =
+  no-command allow n e i p l t g o =
       no-command-from s allow want-command
       (λ a. rw (no-fixed s PRINTI p, no-fixed s PRINTLNS l, no-fixed s PRINTS t, no-fixed s INT i, no-fixed s READ g, no-name s n, no-fixed s ERROR e, no-fixed s WHILE (λ h. o (inr (inl h))), no-fixed s IF (λ h. o (inl h)), no-fixed s open-brace (λ h. o (inr (inr h)))))
 

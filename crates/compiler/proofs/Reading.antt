@@ -12,7 +12,6 @@ use lib.ListN.{length}
 use Rattle.lexeme.specs.Answers.{Answer, given, refused}
 use Rattle.lexeme.specs.Coded.{sign-code, mul-code, rel-code, code-of}
 use Rattle.lexeme.specs.Lexemes.{Name, Lexeme, Sign, Mul, Rel, end, Placed, Sizes}
-use Rattle.lexeme.specs.declared.Kind.the-variants as kind
 use Rattle.lexeme.specs.declared.Lexeme as code
 use Rattle.sentence.specs.Sentences.{Kind, Sen, command}
 use Rattle.sentence.specs.Reader.{Around, depth, State, whole, nowhere, is, step, Verdict, verdict, goes-on, is-whole, begins-none, read-from, read, want-DO}
@@ -22,7 +21,7 @@ use Rattle.compiler.specs.Lexing.{Lexes, Clean, Expects}
 use Rattle.compiler.specs.Steps.{fixed-number, sign-number, mul-number, rel-number, moved-to}
 use Rattle.compiler.specs.Walks.{read-via, Passes, Refuses}
 use Rattle.compiler.proofs.Refusals.{Only, no-refusal, by-number, only-number}
-use Rattle.compiler.proofs.Looked.{not-empty, Seen, seen, seen-name, seen-sign, seen-mul, seen-rel, no-fixed}
+use Rattle.compiler.proofs.Looked.{not-empty, Seen, seen, seen-sign, seen-mul, seen-rel, no-fixed}
 
 -- ---- one lexeme
 
@@ -258,17 +257,13 @@ pub record After (sizes : Sizes) (text : List ℕ) (at e : ℕ) : Type 0 where
   pub clean : Clean sizes text e
 
 module _ {text : List ℕ} {at : ℕ} {r : code.Lexeme} (sizes : Sizes) (clean : Clean sizes text at) (s : Seen text at r) where
-  after : is end (s .what) ≡ false → After sizes text at (r .end)
+  pub after : is end (s .what) ≡ false → After sizes text at (r .end)
   unfolding Clean
   after g = let b = s .same sizes (clean .0) (clean .1) in record { later = s .later g; inside = s .inside g; clean = (b .rest, b .more g) }
 
   pub after-fixed : (fixed-number (r .kind) ≡ 0 → ⊥) → After sizes text at (r .end)
   unfolding code-of
   after-fixed h = after (no-fixed s end h)
-
-  pub after-name : r .kind ≡ kind.Name → After sizes text at (r .end)
-  unfolding is
-  after-name h = after (rw (seen-name s h))
 
   pub after-sign : (g : Sign) → sign-number (r .kind) ≡ sign-code g → After sizes text at (r .end)
   unfolding is

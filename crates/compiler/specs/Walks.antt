@@ -159,8 +159,11 @@ abbrev pub Reads-block : Reading
 Reads-block = λ text names table w allow. Reads command (λ a. want-command (in-block a)) after-command text names table w (suc allow)
 
 -- after IF, WHILE or `{`, by its number
-unfoldable pub Reads-nested : ℕ → Reading
-Reads-nested f = cond (eqb f 123) Reads-block (Reads-guarded (eqb f 21))
+unfoldable pub want-nested : ℕ → Around command → State
+want-nested f = cond (eqb f 123) (λ a. want-command (in-block a)) (want-guarded (eqb f 21))
+
+abbrev pub Reads-nested : ℕ → Reading
+Reads-nested f = λ text names table w allow. Reads command (want-nested f) after-command text names table w (suc allow)
 
 -- ---- a whole Program
 

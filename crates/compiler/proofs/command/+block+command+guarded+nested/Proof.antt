@@ -1,27 +1,25 @@
 -- The readers of commands with bodies meet their contracts. A nesting less is allowed inside, so the calls end. Assumes nothing.
 use Prim.Native.Nat.{ℕ, _+_, _*_, _-_, _<_}
 use mathlib.Core.Path.{_≡_, refl, sym, _∙_}
-use mathlib.Core.List.{List, [], _∷_}
+use mathlib.Core.List.{List}
 use native.Mathlib.Nat.{le-refl}
 use native.Mathlib.Omega.{arith}
 use borrow.Author.Needs.{needs}
 use borrow.Author.Tests.{ne-eqb}
-use types.Run.{miss}
 use mir.Facts.{toZ-ofZ}
 use denote.Ref.{now}
 use lib.IntN.{ℤ}
 use lib.ListN.{length}
 use Rattle.sentence.specs.Sentences.{error}
 use Rattle.compiler.specs.Steps.{moved-to, one-more, needing}
-use Rattle.compiler.specs.Walks.{Reads, Reads-nested}
-use Rattle.compiler.proofs.Bodies.{seen-first, past-fixed, past-name, reads-past, Headed, headed, head-small, ready-headed, Bodied, bodied, body-small, end-small, guarded-read, So-far, so-far-one, ready-so-far, so-far-later, so-far-more, so-far-closed}
-use Rattle.compiler.proofs.Commands.{guarded-leads, block-more, guarded-refused, no-body, block-first, reads-nested, error-read, assign-begins, declare-begins, print-begins, line-begins, string-begins, read-begins, nested-begins, nested-too-deep, no-command}
+use Rattle.compiler.specs.Walks.{Reads, want-nested}
+use Rattle.compiler.proofs.Bodies.{First, first-seen, ready-begun, reads-begun, Headed, headed, head-small, ready-headed, Bodied, bodied, body-small, end-small, guarded-read, So-far, so-far-one, ready-so-far, so-far-later, so-far-more, so-far-closed}
+use Rattle.compiler.proofs.Commands.{guarded-leads, block-more, guarded-refused, no-body, block-first, error-read, begins-assign, begins-declare, begins-print, begins-line, begins-string, begins-read, begins-nested, too-deep-begun, no-command}
 use Rattle.compiler.proofs.Lays.{lays-error}
 use Rattle.compiler.proofs.Looked.{seen}
 use Rattle.compiler.proofs.Reading.{missed, clean-passed}
-use Rattle.compiler.proofs.Expected.{ready-past}
 use Rattle.compiler.proofs.Others.{not-name}
-use Rattle.compiler.proofs.Replies.{code-fits}
+use Rattle.compiler.proofs.Replies.{sizes-of, code-fits}
 use Rattle.compiler.proofs.Stores.{count-fits}
 use borrow.Fn.Kinds.{In}
 use borrow.Fn.PlainCycle.{Measures, is, falls, and}
@@ -206,8 +204,12 @@ command-moved-requires t c κs = search needs
 command-enum-told : (t : ℕ) → command-lts.Need-enum-told (command-claims t) (command-at t) command.Post
 command-enum-told t c = search needs
 
+-- the first lexeme, and the walk after it
+command-first : (t : ℕ) (c : command-lts.After-moved (command-claims t) (command-at t) command.Post) → First (sizes-of (c .before .before .before .before .pre .1)) (now (c .before .before .before .before .args .text)) (now (c .before .before .before .before .args .names)) (c .before .before .before .before .args .w) (c .before .before .before .before .args .allow) (c .before .look .result) (c .moved .result)
+command-first t c = record { ready = c .before .before .before .before .pre .1; looks = c .before .look .ensures; moved = c .moved .ensures }
+
 command-assign-requires : (t : ℕ) → command-lts.Need-assign-requires (command-claims t) (command-at t) command.Post
-command-assign-requires t c κs = ready-past (c .before .before .before .before .before .before .before .before .pre .1) (past-name _ (c .before .before .before .before .before .before .before .before .pre .1) (c .before .before .before .before .before .look .ensures) (c .before .before .enum-told .given .1)) (le-refl _) (c .before .before .before .before .moved .ensures)
+command-assign-requires t c κs = ready-begun (command-first t (c .before .before .before .before)) (begins-assign _ (c .before .before .enum-told .given .1)) (le-refl _)
 
 command-same-length : (t : ℕ) → command-lts.Need-same-length (command-claims t) (command-at t) command.Post
 command-same-length t c = search needs
@@ -216,7 +218,7 @@ command-same-length-2 : (t : ℕ) → command-lts.Need-same-length-2 (command-cl
 command-same-length-2 t c = search needs
 
 command-returns : (t : ℕ) → command-lts.Need-returns (command-claims t) (command-at t) command.Post
-command-returns t c = reads-past _ _ _ _ _ _ (past-name _ (c .before .before .before .before .before .before .before .before .before .before .pre .1) (c .before .before .before .before .before .before .before .look .ensures) (c .before .before .before .before .enum-told .given .1)) (c .before .before .before .before .before .before .moved .ensures) (assign-begins (seen-first _ (c .before .before .before .before .before .before .before .before .before .before .pre .1) (c .before .before .before .before .before .before .before .look .ensures)) _ (c .before .before .before .before .enum-told .given .1)) (c .before .assign .ensures)
+command-returns t c = reads-begun (command-first t (c .before .before .before .before .before .before)) (begins-assign _ (c .before .before .before .before .enum-told .given .1)) _ _ _ _ (omega arith) refl (c .before .assign .ensures)
 
 command-fixed-of-requires : (t : ℕ) → command-lts.Need-fixed-of-requires (command-claims t) (command-at t) command.Post
 command-fixed-of-requires t c κs = search needs
@@ -226,36 +228,36 @@ unfolding moved-to
 command-emitted-requires t c κs = rw (c .before .before .before .before .moved .ensures) (omega (arith, c .before .before .before .before .before .before .before .before .pre .1 .short, c .before .before .before .before .before .before .before .before .pre .1 .code, c .before .before .before .before .before .before .before .before .pre .1 .inside))
 
 command-declare-requires : (t : ℕ) → command-lts.Need-declare-requires (command-claims t) (command-at t) command.Post
-command-declare-requires t c κs = ready-past (c .before .before .before .before .before .before .before .before .before .pre .1) (past-fixed _ (c .before .before .before .before .before .before .before .before .before .pre .1) (c .before .before .before .before .before .before .look .ensures) (c .before .before .before .fixed-of .ensures) (λ z. omega (arith, c .before .before .match2 .keys2, z))) (le-refl _) (c .before .before .before .before .before .moved .ensures)
+command-declare-requires t c κs = ready-begun (command-first t (c .before .before .before .before .before)) (begins-declare _ (sym (c .before .before .before .fixed-of .ensures) ∙ c .before .before .match2 .keys2)) (le-refl _)
 
 command-print-int-requires : (t : ℕ) → command-lts.Need-print-int-requires (command-claims t) (command-at t) command.Post
-command-print-int-requires t c κs = ready-past (c .before .before .before .before .before .before .before .before .before .pre .1) (past-fixed _ (c .before .before .before .before .before .before .before .before .before .pre .1) (c .before .before .before .before .before .before .look .ensures) (c .before .before .before .fixed-of .ensures) (λ z. omega (arith, c .before .before .match2 .keys3, z))) (le-refl _) (c .before .before .before .before .before .moved .ensures)
+command-print-int-requires t c κs = ready-begun (command-first t (c .before .before .before .before .before)) (begins-print _ (sym (c .before .before .before .fixed-of .ensures) ∙ c .before .before .match2 .keys3)) (le-refl _)
 
 command-print-string-requires : (t : ℕ) → command-lts.Need-print-string-requires (command-claims t) (command-at t) command.Post
-command-print-string-requires t c κs = ready-past (c .before .before .before .before .before .before .before .before .before .pre .1) (past-fixed _ (c .before .before .before .before .before .before .before .before .before .pre .1) (c .before .before .before .before .before .before .look .ensures) (c .before .before .before .fixed-of .ensures) (λ z. omega (arith, c .before .before .match2 .keys4, z))) (le-refl _) (c .before .before .before .before .before .moved .ensures)
+command-print-string-requires t c κs = ready-begun (command-first t (c .before .before .before .before .before)) (begins-line _ (sym (c .before .before .before .fixed-of .ensures) ∙ c .before .before .match2 .keys4)) (le-refl _)
 
 command-print-string-requires-2 : (t : ℕ) → command-lts.Need-print-string-requires-2 (command-claims t) (command-at t) command.Post
-command-print-string-requires-2 t c κs = ready-past (c .before .before .before .before .before .before .before .before .before .pre .1) (past-fixed _ (c .before .before .before .before .before .before .before .before .before .pre .1) (c .before .before .before .before .before .before .look .ensures) (c .before .before .before .fixed-of .ensures) (λ z. omega (arith, c .before .before .match2 .keys5, z))) (le-refl _) (c .before .before .before .before .before .moved .ensures)
+command-print-string-requires-2 t c κs = ready-begun (command-first t (c .before .before .before .before .before)) (begins-string _ (sym (c .before .before .before .fixed-of .ensures) ∙ c .before .before .match2 .keys5)) (le-refl _)
 
 command-read-requires : (t : ℕ) → command-lts.Need-read-requires (command-claims t) (command-at t) command.Post
-command-read-requires t c κs = ready-past (c .before .before .before .before .before .before .before .before .before .pre .1) (past-fixed _ (c .before .before .before .before .before .before .before .before .before .pre .1) (c .before .before .before .before .before .before .look .ensures) (c .before .before .before .fixed-of .ensures) (λ z. omega (arith, c .before .before .match2 .keys6, z))) (le-refl _) (c .before .before .before .before .before .moved .ensures)
+command-read-requires t c κs = ready-begun (command-first t (c .before .before .before .before .before)) (begins-read _ (sym (c .before .before .before .fixed-of .ensures) ∙ c .before .before .match2 .keys6)) (le-refl _)
 
 command-returns-2 : (t : ℕ) → command-lts.Need-returns-2 (command-claims t) (command-at t) command.Post
 unfolding Reads
-command-returns-2 t c = nested-too-deep (seen-first _ (c .before .before .before .before .before .before .before .before .pre .1) (c .before .before .before .before .before .look .ensures)) _ (rw (c .before .before .fixed-of .ensures) at (c .before .match2 .keys7)) (c .if1 .taken)
+command-returns-2 t c = too-deep-begun _ (begins-nested (first-seen (command-first t (c .before .before .before .before))) (rw (c .before .before .fixed-of .ensures) at (c .before .match2 .keys7))) (omega (arith, c .if1 .taken))
 
 command-sub-nested : (t : ℕ) → command-lts.Need-sub-nested (command-claims t) (command-at t) command.Post
 command-sub-nested t c = omega (arith, c .before .before .if1 .left)
 
 command-nested-requires : (t : ℕ) → command-lts.Need-nested-requires (command-claims t) (command-at t) command.Post
-command-nested-requires t c κs = (omega (arith, c .before .before .before .before .before .before .before .before .before .before .pre .0, c .before .before .if1 .left), ready-past (c .before .before .before .before .before .before .before .before .before .before .pre .1) (past-fixed _ (c .before .before .before .before .before .before .before .before .before .before .pre .1) (c .before .before .before .before .before .before .before .look .ensures) (c .before .before .before .before .fixed-of .ensures) (λ z. miss (6 ∷ 21 ∷ 123 ∷ []) 0 tt (rw z at (c .before .before .before .match2 .keys7)))) (omega arith) (c .before .before .before .before .before .before .moved .ensures))
+command-nested-requires t c κs = (omega (arith, c .before .before .before .before .before .before .before .before .before .before .pre .0, c .before .before .if1 .left), ready-begun (command-first t (c .before .before .before .before .before .before)) (begins-nested _ (rw (c .before .before .before .before .fixed-of .ensures) at (c .before .before .before .match2 .keys7))) (omega arith))
 
 command-same-length-3 : (t : ℕ) → command-lts.Need-same-length-3 (command-claims t) (command-at t) command.Post
 command-same-length-3 t c = search needs
 
 command-returns-3 : (t : ℕ) → command-lts.Need-returns-3 (command-claims t) (command-at t) command.Post
 unfolding Reads one-more moved-to
-command-returns-3 t c = rw (c .before .emitted .ensures .0, c .before .emitted .ensures .1, c .before .before .before .before .before .before .moved .ensures) (error, error-read (seen-first _ (c .before .before .before .before .before .before .before .before .before .before .pre .1) (c .before .before .before .before .before .before .before .look .ensures)) _ (sym (c .before .before .before .before .fixed-of .ensures) ∙ c .before .before .before .match2 .keys1), lays-error _ ((past-fixed _ (c .before .before .before .before .before .before .before .before .before .before .pre .1) (c .before .before .before .before .before .before .before .look .ensures) (c .before .before .before .before .fixed-of .ensures) (λ z. omega (arith, c .before .before .before .match2 .keys1, z))) .later) (c .before .before .before .before .before .before .before .before .before .before .pre .1 .declared))
+command-returns-3 t c = let p = error-read (first-seen (command-first t (c .before .before .before .before .before .before))) (c .before .before .before .before .before .before .before .before .before .before .args .allow) (sym (c .before .before .before .before .fixed-of .ensures) ∙ c .before .before .before .match2 .keys1) in rw (c .before .emitted .ensures .0, c .before .emitted .ensures .1, c .before .before .before .before .before .before .moved .ensures) (error, p, lays-error _ (p .later) (c .before .before .before .before .before .before .before .before .before .before .pre .1 .declared))
 
 command-same-length-4 : (t : ℕ) → command-lts.Need-same-length-4 (command-claims t) (command-at t) command.Post
 command-same-length-4 t c = search needs
@@ -264,7 +266,7 @@ command-same-length-5 : (t : ℕ) → command-lts.Need-same-length-5 (command-cl
 command-same-length-5 t c = search needs
 
 command-returns-4 : (t : ℕ) → command-lts.Need-returns-4 (command-claims t) (command-at t) command.Post
-command-returns-4 t c = reads-past _ _ _ _ _ _ (past-fixed _ (c .before .before .before .before .before .before .before .before .before .before .before .before .before .pre .1) (c .before .before .before .before .before .before .before .before .before .before .look .ensures) (c .before .before .before .before .before .before .before .fixed-of .ensures) (λ z. omega (arith, c .before .before .before .before .before .before .match2 .keys2, z))) (c .before .before .before .before .before .before .before .before .before .moved .ensures) (declare-begins (seen-first _ (c .before .before .before .before .before .before .before .before .before .before .before .before .before .pre .1) (c .before .before .before .before .before .before .before .before .before .before .look .ensures)) _ (sym (c .before .before .before .before .before .before .before .fixed-of .ensures) ∙ c .before .before .before .before .before .before .match2 .keys2)) (c .before .before .before .declare .ensures)
+command-returns-4 t c = reads-begun (command-first t (c .before .before .before .before .before .before .before .before .before)) (begins-declare _ (sym (c .before .before .before .before .before .before .before .fixed-of .ensures) ∙ c .before .before .before .before .before .before .match2 .keys2)) _ _ _ _ (omega arith) refl (c .before .before .before .declare .ensures)
 
 command-same-length-6 : (t : ℕ) → command-lts.Need-same-length-6 (command-claims t) (command-at t) command.Post
 command-same-length-6 t c = search needs
@@ -273,7 +275,7 @@ command-same-length-7 : (t : ℕ) → command-lts.Need-same-length-7 (command-cl
 command-same-length-7 t c = search needs
 
 command-returns-5 : (t : ℕ) → command-lts.Need-returns-5 (command-claims t) (command-at t) command.Post
-command-returns-5 t c = reads-past _ _ _ _ _ _ (past-fixed _ (c .before .before .before .before .before .before .before .before .before .before .before .pre .1) (c .before .before .before .before .before .before .before .before .look .ensures) (c .before .before .before .before .before .fixed-of .ensures) (λ z. omega (arith, c .before .before .before .before .match2 .keys3, z))) (c .before .before .before .before .before .before .before .moved .ensures) (print-begins (seen-first _ (c .before .before .before .before .before .before .before .before .before .before .before .pre .1) (c .before .before .before .before .before .before .before .before .look .ensures)) _ (sym (c .before .before .before .before .before .fixed-of .ensures) ∙ c .before .before .before .before .match2 .keys3)) (c .before .print-int .ensures)
+command-returns-5 t c = reads-begun (command-first t (c .before .before .before .before .before .before .before)) (begins-print _ (sym (c .before .before .before .before .before .fixed-of .ensures) ∙ c .before .before .before .before .match2 .keys3)) _ _ _ _ (omega arith) refl (c .before .print-int .ensures)
 
 command-same-length-8 : (t : ℕ) → command-lts.Need-same-length-8 (command-claims t) (command-at t) command.Post
 command-same-length-8 t c = search needs
@@ -282,7 +284,7 @@ command-same-length-9 : (t : ℕ) → command-lts.Need-same-length-9 (command-cl
 command-same-length-9 t c = search needs
 
 command-returns-6 : (t : ℕ) → command-lts.Need-returns-6 (command-claims t) (command-at t) command.Post
-command-returns-6 t c = reads-past _ _ _ _ _ _ (past-fixed _ (c .before .before .before .before .before .before .before .before .before .before .before .pre .1) (c .before .before .before .before .before .before .before .before .look .ensures) (c .before .before .before .before .before .fixed-of .ensures) (λ z. omega (arith, c .before .before .before .before .match2 .keys4, z))) (c .before .before .before .before .before .before .before .moved .ensures) (line-begins (seen-first _ (c .before .before .before .before .before .before .before .before .before .before .before .pre .1) (c .before .before .before .before .before .before .before .before .look .ensures)) _ (sym (c .before .before .before .before .before .fixed-of .ensures) ∙ c .before .before .before .before .match2 .keys4)) (c .before .print-string .ensures)
+command-returns-6 t c = reads-begun (command-first t (c .before .before .before .before .before .before .before)) (begins-line _ (sym (c .before .before .before .before .before .fixed-of .ensures) ∙ c .before .before .before .before .match2 .keys4)) _ _ _ _ (omega arith) refl (c .before .print-string .ensures)
 
 command-same-length-10 : (t : ℕ) → command-lts.Need-same-length-10 (command-claims t) (command-at t) command.Post
 command-same-length-10 t c = search needs
@@ -291,7 +293,7 @@ command-same-length-11 : (t : ℕ) → command-lts.Need-same-length-11 (command-
 command-same-length-11 t c = search needs
 
 command-returns-7 : (t : ℕ) → command-lts.Need-returns-7 (command-claims t) (command-at t) command.Post
-command-returns-7 t c = reads-past _ _ _ _ _ _ (past-fixed _ (c .before .before .before .before .before .before .before .before .before .before .before .pre .1) (c .before .before .before .before .before .before .before .before .look .ensures) (c .before .before .before .before .before .fixed-of .ensures) (λ z. omega (arith, c .before .before .before .before .match2 .keys5, z))) (c .before .before .before .before .before .before .before .moved .ensures) (string-begins (seen-first _ (c .before .before .before .before .before .before .before .before .before .before .before .pre .1) (c .before .before .before .before .before .before .before .before .look .ensures)) _ (sym (c .before .before .before .before .before .fixed-of .ensures) ∙ c .before .before .before .before .match2 .keys5)) (c .before .print-string2 .ensures)
+command-returns-7 t c = reads-begun (command-first t (c .before .before .before .before .before .before .before)) (begins-string _ (sym (c .before .before .before .before .before .fixed-of .ensures) ∙ c .before .before .before .before .match2 .keys5)) _ _ _ _ (omega arith) refl (c .before .print-string2 .ensures)
 
 command-same-length-12 : (t : ℕ) → command-lts.Need-same-length-12 (command-claims t) (command-at t) command.Post
 command-same-length-12 t c = search needs
@@ -300,7 +302,7 @@ command-same-length-13 : (t : ℕ) → command-lts.Need-same-length-13 (command-
 command-same-length-13 t c = search needs
 
 command-returns-8 : (t : ℕ) → command-lts.Need-returns-8 (command-claims t) (command-at t) command.Post
-command-returns-8 t c = reads-past _ _ _ _ _ _ (past-fixed _ (c .before .before .before .before .before .before .before .before .before .before .before .pre .1) (c .before .before .before .before .before .before .before .before .look .ensures) (c .before .before .before .before .before .fixed-of .ensures) (λ z. omega (arith, c .before .before .before .before .match2 .keys6, z))) (c .before .before .before .before .before .before .before .moved .ensures) (read-begins (seen-first _ (c .before .before .before .before .before .before .before .before .before .before .before .pre .1) (c .before .before .before .before .before .before .before .before .look .ensures)) _ (sym (c .before .before .before .before .before .fixed-of .ensures) ∙ c .before .before .before .before .match2 .keys6)) (c .before .read .ensures)
+command-returns-8 t c = reads-begun (command-first t (c .before .before .before .before .before .before .before)) (begins-read _ (sym (c .before .before .before .before .before .fixed-of .ensures) ∙ c .before .before .before .before .match2 .keys6)) _ _ _ _ (omega arith) refl (c .before .read .ensures)
 
 command-same-length-14 : (t : ℕ) → command-lts.Need-same-length-14 (command-claims t) (command-at t) command.Post
 command-same-length-14 t c = search needs
@@ -309,11 +311,11 @@ command-same-length-15 : (t : ℕ) → command-lts.Need-same-length-15 (command-
 command-same-length-15 t c = search needs
 
 command-returns-9 : (t : ℕ) → command-lts.Need-returns-9 (command-claims t) (command-at t) command.Post
-command-returns-9 t c = reads-past _ _ _ _ _ _ (past-fixed _ (c .before .before .before .before .before .before .before .before .before .before .before .before .before .before .pre .1) (c .before .before .before .before .before .before .before .before .before .before .before .look .ensures) (c .before .before .before .before .before .before .before .before .fixed-of .ensures) (λ z. miss (6 ∷ 21 ∷ 123 ∷ []) 0 tt (rw z at (c .before .before .before .before .before .before .before .match2 .keys7)))) (c .before .before .before .before .before .before .before .before .before .before .moved .ensures) (nested-begins (seen-first _ (c .before .before .before .before .before .before .before .before .before .before .before .before .before .before .pre .1) (c .before .before .before .before .before .before .before .before .before .before .before .look .ensures)) _ (rw (c .before .before .before .before .before .before .before .before .fixed-of .ensures) at (c .before .before .before .before .before .before .before .match2 .keys7)) (c .before .before .before .before .before .before .if1 .left)) (reads-nested _ _ _ _ _ _ _ _ _ (rw (c .before .before .before .before .before .before .before .before .fixed-of .ensures) at (c .before .before .before .nested .ensures)))
+command-returns-9 t c = reads-begun (command-first t (c .before .before .before .before .before .before .before .before .before .before)) (begins-nested _ (rw (c .before .before .before .before .before .before .before .before .fixed-of .ensures) at (c .before .before .before .before .before .before .before .match2 .keys7))) _ _ _ _ (omega (arith, c .before .before .before .before .before .before .if1 .left)) (omega (arith, c .before .before .before .before .before .before .if1 .left)) (rw (c .before .before .before .before .before .before .before .before .fixed-of .ensures) at (c .before .before .before .nested .ensures))
 
 command-returns-10 : (t : ℕ) → command-lts.Need-returns-10 (command-claims t) (command-at t) command.Post
 unfolding Reads
-command-returns-10 t c = no-command (seen-first _ (c .before .before .before .before .before .before .before .pre .1) (c .before .before .before .before .look .ensures)) _ (not-name (c .before .before .match .keys2)) (λ h. c .match2 .rest .0 .0 .0 .0 .0 .0 .1 (rw (c .before .fixed-of .ensures) h)) (λ h. c .match2 .rest .0 .0 .0 .0 .0 .1 (rw (c .before .fixed-of .ensures) h)) (λ h. c .match2 .rest .0 .0 .0 .0 .1 (rw (c .before .fixed-of .ensures) h)) (λ h. c .match2 .rest .0 .0 .0 .1 (rw (c .before .fixed-of .ensures) h)) (λ h. c .match2 .rest .0 .0 .1 (rw (c .before .fixed-of .ensures) h)) (λ h. c .match2 .rest .0 .1 (rw (c .before .fixed-of .ensures) h)) (λ h. c .match2 .rest .1 (rw (c .before .fixed-of .ensures) h))
+command-returns-10 t c = no-command (first-seen (command-first t (c .before .before .before))) _ (not-name (c .before .before .match .keys2)) (λ h. c .match2 .rest .0 .0 .0 .0 .0 .0 .1 (rw (c .before .fixed-of .ensures) h)) (λ h. c .match2 .rest .0 .0 .0 .0 .0 .1 (rw (c .before .fixed-of .ensures) h)) (λ h. c .match2 .rest .0 .0 .0 .0 .1 (rw (c .before .fixed-of .ensures) h)) (λ h. c .match2 .rest .0 .0 .0 .1 (rw (c .before .fixed-of .ensures) h)) (λ h. c .match2 .rest .0 .0 .1 (rw (c .before .fixed-of .ensures) h)) (λ h. c .match2 .rest .0 .1 (rw (c .before .fixed-of .ensures) h)) (λ h. c .match2 .rest .1 (rw (c .before .fixed-of .ensures) h))
 
 guarded-condition-requires : (t : ℕ) → guarded-lts.Need-condition-requires (guarded-claims t) (guarded-at t) guarded.Post
 guarded-condition-requires t c κs = c .before .before .before .before .pre .1
@@ -418,7 +420,7 @@ nested-same-length-2 : (t : ℕ) → nested-lts.Need-same-length-2 (nested-claim
 nested-same-length-2 t c = search needs
 
 nested-returns : (t : ℕ) → nested-lts.Need-returns (nested-claims t) (nested-at t) nested.Post
-unfolding Reads-nested
+unfolding want-nested
 nested-returns t c = rw (c .before .before .before .before .before .before .if1 .taken) (c .before .before .before .block .ensures)
 
 nested-guarded-requires : (t : ℕ) → nested-lts.Need-guarded-requires (nested-claims t) (nested-at t) nested.Post
@@ -431,7 +433,7 @@ nested-same-length-4 : (t : ℕ) → nested-lts.Need-same-length-4 (nested-claim
 nested-same-length-4 t c = search needs
 
 nested-returns-2 : (t : ℕ) → nested-lts.Need-returns-2 (nested-claims t) (nested-at t) nested.Post
-unfolding Reads-nested
+unfolding want-nested
 nested-returns-2 t c = rw (ne-eqb _ _ (c .before .before .before .before .before .before .if1 .left)) (c .before .before .before .guarded .ensures)
 
 pub +block+command+guarded+nested-spec : {M : Type 1} → statement M
