@@ -12,21 +12,23 @@ use Rattle.lexeme.specs.Coded.{code-of}
 use Rattle.lexeme.specs.Lexemes.{Name, Sizes, end}
 use Rattle.lexeme.specs.declared.Kind.the-variants as kind
 use Rattle.lexeme.specs.declared.Lexeme as code
-use Rattle.sentence.specs.Sentences.{Sen, condition, command, commands, block, single, then}
+use Rattle.sentence.specs.Sentences.{Sen, condition, command, commands, assign, block, single, then}
 use Rattle.sentence.specs.Reader.{Around, State, after-command}
 use Rattle.compiler.specs.declared.walk.Walk.{Walk}
 use Rattle.compiler.specs.declared.walk.Read.{Read}
 use Rattle.compiler.specs.declared.walk.Read.the-variants.{Done}
+use Rattle.compiler.specs.declared.scope.Cell.{Cell}
 use Rattle.compiler.specs.Lexing.{Looks, Expects}
-use Rattle.compiler.specs.Steps.{fixed-number, moved-to, one-more, needing, before-body, ended-walk, ended-table}
+use Rattle.compiler.specs.Scopes.{name-at}
+use Rattle.compiler.specs.Steps.{fixed-number, moved-to, one-more, needing, noted-walk, cell-number, before-body, ended-walk, ended-table}
 use Rattle.compiler.specs.Tables.{put}
 use Rattle.compiler.specs.Walks.{Lays, Ready, Reads, Reads-command, Reads-condition, Reads-guarded, Reads-block}
-use Rattle.compiler.proofs.Commands.{command-way, Begins, begun-leads, block-so-far, guarded-leads, block-first, block-more, block-closed}
+use Rattle.compiler.proofs.Commands.{command-way, assign-way, assign-leads, Begins, begun-leads, block-so-far, guarded-leads, block-first, block-more, block-closed}
 use Rattle.compiler.proofs.Expected.{Expected, expected}
-use Rattle.compiler.proofs.Lays.{guarded, lead, lays-guarded, lays-single, lays-then, lays-block, counts-fit, ready-after, ready-body}
+use Rattle.compiler.proofs.Lays.{guarded, its-cell, noted-beside, lays-assign, lead, lays-guarded, lays-single, lays-then, lays-block, counts-fit, ready-after, ready-body}
 use Rattle.compiler.proofs.Looked.{Seen, no-fixed}
-use Rattle.compiler.proofs.Passes.{condition-way}
-use Rattle.compiler.proofs.Reading.{Passed, After, after, after-met, clean-passed}
+use Rattle.compiler.proofs.Passes.{expression-way, condition-way}
+use Rattle.compiler.proofs.Reading.{Passed, Met, After, after, after-met, clean-passed}
 use Rattle.compiler.proofs.Replies.{Got, got, handed-on, ready-seen, ready-next, counts-got}
 
 -- ---- the first lexeme of a command
@@ -50,6 +52,18 @@ module _ {sizes : Sizes} {text names : List ℕ} {w x : Walk} {allow : ℕ} {r :
     pub reads-begun : {allow′ : ℕ} (table : List ℤ) (q : Read) (names′ : List ℕ) (table′ : List ℤ) → deeper ≤ allow → allow′ ≡ allow → Reads command start after-command text names table x allow′ q names′ table′ → Reads-command text names table w allow q names′ table′
     unfolding moved-to
     reads-begun table q names′ table′ d e h = handed-on (begun-leads first-seen b d e) (λ m v. lead (r .end) (omega (arith, first-seen .later (b .going)))) q (rw (f .moved) at h)
+
+-- ---- `:=` after a name, and an Expression
+
+pub assigned : {sizes : Sizes} {text names : List ℕ} {table table′ : List ℤ} {w x u v : Walk} {allow : ℕ} {cell : Cell} (place : ℕ) → Ready sizes text names w allow → Expected text w 58 x → cell ≡ its-cell text names x place → u ≡ noted-walk cell x place → Got expression-way text names table u allow names table′ v
+    → Got (assign-way (name-at text place)) text names table w allow names (put table′ (v .code) (pos 4 ∷ pos (cell-number cell) ∷ [])) (one-more v (v .need))
+unfolding moved-to one-more
+assigned {text} {names} {w} {x} place ready b e n g =
+    let t = moved-to w (x .at) in
+    let h = rw (n, e, b .moved) at g in
+    let m : Met text (w .at) 58 (noted-walk (its-cell text names t place) t place .at) = rw (noted-beside _ _ _ .at) (b .met) in
+    rw (e, b .moved)
+    (record { what = assign (name-at text place) (h .what); passed = assign-leads _ _ m .passes (h .what) (h .passed); laid = lays-assign place (x .at) (omega (arith, after-met _ (ready .clean) (b .met) (λ z. omega arith) .later)) (h .laid) })
 
 -- ---- a condition, and the lexeme before the body
 

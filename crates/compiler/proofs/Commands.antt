@@ -19,7 +19,7 @@ use Rattle.compiler.specs.Lexing.{Lexes}
 use Rattle.compiler.specs.Scopes.{name-at}
 use Rattle.compiler.specs.Steps.{fixed-number, before-body}
 use Rattle.compiler.specs.Walks.{want-quoted, want-guarded, want-nested}
-use Rattle.compiler.proofs.Lays.{guarded}
+use Rattle.compiler.proofs.Lays.{quoted, guarded}
 use Rattle.compiler.proofs.Looked.{Seen, quoted-at, seen-name, seen-string, seen-fixed, no-fixed, no-name, no-string}
 use Rattle.compiler.proofs.Reading.{from-via, ended, Comes, Stuck, comes-on, comes-stuck, comes-within, stuck-within, alike, onward, none, too-deep, Way, Passed, Barred, comes, passes, stuck, refuses, Leads, leads, begins, refuses-within, Met, Missed}
 use Rattle.compiler.proofs.Passes.{expression-way, condition-way}
@@ -73,13 +73,10 @@ module _ {text : List ℕ} {at : ℕ} {r : code.Lexeme} (s : Seen text at r) (al
   no-command-from : (start : Around command → State) → ((a : Around command) → step (start a) (s .what) ≡ nowhere) → Barred (command-from start) text at allow 4 (r .place)
   no-command-from start e = refuses text at allow start 4 (r .place) (none s (λ a. step (start a)) e)
 
-  pub line-printed : r .kind ≡ kind.Str → Passed (string-way true) text at (r .end) allow (print-line (quoted-at text (r .place)))
-  unfolding is step want-quoted on-string
-  line-printed h = let e = seen-string s h in ends-command (want-quoted true) (print-line (quoted-at text (r .place))) (rw e) (λ a. rw e)
-
-  pub string-printed : r .kind ≡ kind.Str → Passed (string-way false) text at (r .end) allow (print-string (quoted-at text (r .place)))
-  unfolding is step want-quoted on-string
-  string-printed h = let e = seen-string s h in ends-command (want-quoted false) (print-string (quoted-at text (r .place))) (rw e) (λ a. rw e)
+  pub quoted-printed : (line : Bool) → r .kind ≡ kind.Str → Passed (string-way line) text at (r .end) allow (quoted line (quoted-at text (r .place)))
+  unfolding is step want-quoted on-string quoted
+  quoted-printed true h = let e = seen-string s h in ends-command (want-quoted true) (print-line (quoted-at text (r .place))) (rw e) (λ a. rw e)
+  quoted-printed false h = let e = seen-string s h in ends-command (want-quoted false) (print-string (quoted-at text (r .place))) (rw e) (λ a. rw e)
 
   pub no-quoted : (line : Bool) → (r .kind ≡ kind.Str → ⊥) → Barred (string-way line) text at allow 4 (r .place)
   unfolding step want-quoted

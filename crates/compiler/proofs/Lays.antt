@@ -27,7 +27,7 @@ use Rattle.compiler.specs.declared.walk.Walk.{Walk}
 use Rattle.compiler.specs.declared.scope.Cell.{Cell}
 use Rattle.compiler.specs.declared.scope.Cell.the-variants.{At, Nowhere}
 use Rattle.compiler.specs.Scopes.{word-at, name-at, entered, declarations, stand}
-use Rattle.compiler.specs.Steps.{moved-to, one-more, needing, ended-walk, ended-table, faulted-walk, operation-number, found, noted-walk, cell-number, declared-walk, declared-names}
+use Rattle.compiler.specs.Steps.{moved-to, one-more, needing, printing-number, ended-walk, ended-table, faulted-walk, operation-number, found, noted-walk, cell-number, declared-walk, declared-names}
 use Rattle.compiler.specs.Tables.{put, emit}
 use Rattle.compiler.specs.Walks.{named, scope-of, Laid, spare, Small, Kept, Lays, Ready}
 use Rattle.compiler.specs.Lexing.{Clean}
@@ -320,6 +320,11 @@ module _ {l : Kind} {table : List ℤ} {w v : Walk} where
   unfolding emit
   laid-pair z i j a d s c = record { code = rw s a; need = d; numbers = rw (c, add-one) }
 
+-- PRINTLNS, which prints a line, or PRINTS
+unfoldable pub quoted : {A : Type 0} → Bool → Quoted → Sen A command
+quoted true q = print-line q
+quoted false q = print-string q
+
 module _ {text names : List ℕ} {table : List ℤ} {w : Walk} where
   pub lays-variable : (place e : ℕ) → w .at < e → w .declared ≤ length names →
       Lays text names table w (variable (name-at text place)) names (put table (w .code) (pos 3 ∷ pos (cell-number (its-cell text names w place)) ∷ [])) (one-more (noted-walk (its-cell text names w place) (moved-to w e) place) 1)
@@ -352,13 +357,10 @@ module _ {text names : List ℕ} {table : List ℤ} {w : Walk} where
   unfolding moved-to one-more stand resolve size need code pair spare
   lays-error e h d = lays (leads-give error (stand text names w) (laid-one error (halt 1) e 0 refl refl refl)) (omega arith) (kept-all (w .declared) names)
 
-  pub lays-print-line : (q : Quoted) (place e : ℕ) → q .place ≡ place + 1 → w .at < e → w .declared ≤ length names → Lays text names table w (print-line q) names (put table (w .code) (pos 19 ∷ pos (place + 1) ∷ [])) (one-more (moved-to w e) 0)
-  unfolding moved-to one-more stand resolve size need code pair spare
-  lays-print-line q place e p h d = rw (← p) (lays (leads-give (print-line q) (stand text names w) (laid-one (print-line q) (print-str-ln (q .place)) e 0 refl refl refl)) (omega arith) (kept-all (w .declared) names))
-
-  pub lays-print-string : (q : Quoted) (place e : ℕ) → q .place ≡ place + 1 → w .at < e → w .declared ≤ length names → Lays text names table w (print-string q) names (put table (w .code) (pos 18 ∷ pos (place + 1) ∷ [])) (one-more (moved-to w e) 0)
-  unfolding moved-to one-more stand resolve size need code pair spare
-  lays-print-string q place e p h d = rw (← p) (lays (leads-give (print-string q) (stand text names w) (laid-one (print-string q) (print-str (q .place)) e 0 refl refl refl)) (omega arith) (kept-all (w .declared) names))
+  pub lays-quoted : (line : Bool) (q : Quoted) (place e : ℕ) → q .place ≡ place + 1 → w .at < e → w .declared ≤ length names → Lays text names table w (quoted line q) names (put table (w .code) (printing-number line ∷ pos (place + 1) ∷ [])) (one-more (moved-to w e) 0)
+  unfolding moved-to one-more stand resolve size need code pair spare quoted printing-number
+  lays-quoted true q place e p h d = rw (← p) (lays (leads-give (print-line q) (stand text names w) (laid-one (print-line q) (print-str-ln (q .place)) e 0 refl refl refl)) (omega arith) (kept-all (w .declared) names))
+  lays-quoted false q place e p h d = rw (← p) (lays (leads-give (print-string q) (stand text names w) (laid-one (print-string q) (print-str (q .place)) e 0 refl refl refl)) (omega arith) (kept-all (w .declared) names))
 
 -- ---- declarations
 

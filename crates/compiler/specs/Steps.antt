@@ -31,6 +31,12 @@ needing w n = record { at = w .at; code = w .code; need = n; declared = w .decla
 unfoldable pub faulted-walk : Walk → ℕ → ℕ → Walk
 faulted-walk w n p = cond (eqb (w .fault) 0) (record { at = w .at; code = w .code; need = w .need; declared = w .declared; fault = n; place = p }) w
 
+-- ---- the operation of PRINTLNS, which prints a line, or of PRINTS
+
+unfoldable pub printing-number : Bool → ℤ
+printing-number true = pos 19
+printing-number false = pos 18
+
 -- ---- around the body of an IF, or of a WHILE, which jumps back
 
 unfoldable pub before-body : Bool → L.Fixed

@@ -2,7 +2,7 @@
 ghost use mathlib.Core.Path.{_≡_};
 ghost use Prim.Native.Nat.{_<_};
 ghost use Rattle.lexeme.specs.Coded.{code-of};
-ghost use Rattle.compiler.specs.Steps.{before-body, ended-walk, ended-table};
+ghost use Rattle.compiler.specs.Steps.{printing-number, before-body, ended-walk, ended-table};
 ghost use Rattle.compiler.specs.Walks.{Ready, Reads-command, Reads-print, Reads-string, Reads-declare, Reads-read, Reads-assign, Reads-nested, Reads-guarded, Reads-block};
 use crate::expression;
 use crate::scope;
@@ -27,7 +27,14 @@ fn print_int(text: &[u8], names: &[usize], table: &mut [i32], w: Walk, allow: us
     Read::Done(walk::emitted(table, x, 17, 0, x.need))
 }
 
-// After PRINTLNS, which prints a line, or PRINTS.
+// The operation of PRINTLNS, which prints a line, or of PRINTS.
+fn printing(line: bool) -> i32
+    ensures { λ r. ⌜ r ≡ printing-number line ⌝ }
+{
+    if line { 19 } else { 18 }
+}
+
+// After one of these.
 fn print_string(
     text: &[u8],
     names: &[usize],
@@ -46,10 +53,7 @@ fn print_string(
     };
     let x = walk::moved(w, l.end);
     let s = (l.place + 1) as i32;
-    if line {
-        return Read::Done(walk::emitted(table, x, 19, s, 0));
-    }
-    Read::Done(walk::emitted(table, x, 18, s, 0))
+    Read::Done(walk::emitted(table, x, printing(line), s, 0))
 }
 
 // After INT.

@@ -225,7 +225,7 @@ command-fixed-of-requires t c κs = search needs
 
 command-emitted-requires : (t : ℕ) → command-lts.Need-emitted-requires (command-claims t) (command-at t) command.Post
 unfolding moved-to
-command-emitted-requires t c κs = rw (c .before .before .before .before .moved .ensures) (omega (arith, c .before .before .before .before .before .before .before .before .pre .1 .short, c .before .before .before .before .before .before .before .before .pre .1 .code, c .before .before .before .before .before .before .before .before .pre .1 .inside))
+command-emitted-requires t c κs = rw (c .before .before .before .before .moved .ensures) (code-fits (c .before .before .before .before .before .before .before .before .pre .1))
 
 command-declare-requires : (t : ℕ) → command-lts.Need-declare-requires (command-claims t) (command-at t) command.Post
 command-declare-requires t c κs = ready-begun (command-first t (c .before .before .before .before .before)) (begins-declare _ (sym (c .before .before .before .fixed-of .ensures) ∙ c .before .before .match2 .keys2)) (le-refl _)
