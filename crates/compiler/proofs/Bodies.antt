@@ -22,14 +22,14 @@ use Rattle.compiler.specs.Lexing.{Looks, Expects}
 use Rattle.compiler.specs.Scopes.{name-at}
 use Rattle.compiler.specs.Steps.{fixed-number, moved-to, one-more, needing, noted-walk, cell-number, before-body, ended-walk, ended-table}
 use Rattle.compiler.specs.Tables.{put}
-use Rattle.compiler.specs.Walks.{Lays, Ready, Reads, Reads-command, Reads-condition, Reads-guarded, Reads-block}
+use Rattle.compiler.specs.Walks.{Lays, Ready, Reads, Reads-command, Reads-guarded, Reads-block}
 use Rattle.compiler.proofs.Commands.{command-way, assign-way, assign-leads, Begins, begun-leads, block-so-far, guarded-leads, block-first, block-more, block-closed}
 use Rattle.compiler.proofs.Expected.{Expected, expected}
 use Rattle.compiler.proofs.Lays.{guarded, its-cell, noted-beside, lays-assign, lead, lays-guarded, lays-single, lays-then, lays-block, counts-fit, ready-after, ready-body}
 use Rattle.compiler.proofs.Looked.{Seen, no-fixed}
 use Rattle.compiler.proofs.Passes.{expression-way, condition-way}
 use Rattle.compiler.proofs.Reading.{Passed, Met, After, after, after-met, clean-passed}
-use Rattle.compiler.proofs.Replies.{Got, got, handed-on, ready-seen, ready-next, counts-got}
+use Rattle.compiler.proofs.Replies.{Got, got, handed-on, ready-seen, ready-next, ready-got, counts-got}
 
 -- ---- the first lexeme of a command
 
@@ -74,17 +74,12 @@ before-some false z = omega arith
 
 -- by the walk from w to `before`, and after the lexeme to x
 pub record Headed (again : Bool) (text names : List ℕ) (table : List ℤ) (w : Walk) (allow : ℕ) (table₁ : List ℤ) (x : Walk) : Type 0 where
-  pub test : Sen Name condition
   pub before : Walk
-  pub passed : Passed condition-way text (w .at) (before .at) allow test
-  pub laid : Lays text names table w test names table₁ before
+  pub test : Got condition-way text names table w allow names table₁ before
   pub next : Expected text before (code-of (before-body again)) x
 
-pub headed : {again : Bool} {f : ℕ} {sizes : Sizes} {text names : List ℕ} {table table₁ : List ℤ} {w x : Walk} {allow : ℕ} {q s : Read} {v : Walk} → Ready sizes text names w allow → q ≡ Done v → Reads-condition text names table w allow q names table₁ → f ≡ code-of (before-body again) → s ≡ Done x → Expects text v f s → Headed again text names table w allow table₁ x
-unfolding Reads
-headed {v} ready d h f e k =
-    let g = rw d at h in
-    record { test = g .0; before = v; passed = g .1; laid = g .2; next = expected _ e (clean-passed _ (g .1) (ready .clean)) (rw f at k) }
+pub headed : {again : Bool} {f : ℕ} {sizes : Sizes} {text names : List ℕ} {table table₁ : List ℤ} {w v x : Walk} {allow : ℕ} {s : Read} → Ready sizes text names w allow → Got condition-way text names table w allow names table₁ v → f ≡ code-of (before-body again) → s ≡ Done x → Expects text v f s → Headed again text names table w allow table₁ x
+headed {v} ready g f e k = record { before = v; test = g; next = expected _ e (ready-got ready g .clean) (rw f at k) }
 
 -- how far the end of the body goes beyond it
 ended-code : (again : Bool) (w : Walk) (n : ℕ) → ended-walk again w n .code ≤ w .code + 1
@@ -99,15 +94,15 @@ ended-at false w n = refl
 
 module _ {again : Bool} {sizes : Sizes} {text names : List ℕ} {table table₁ : List ℤ} {w x : Walk} {allow : ℕ} (ready : Ready sizes text names w allow) (b : Headed again text names table w allow table₁ x) where
   past-head : After sizes text (b .before .at) (x .at)
-  past-head = after-met _ (clean-passed _ (b .passed) (ready .clean)) (b .next .met) (before-some again)
+  past-head = after-met _ (ready-got ready (b .test) .clean) (b .next .met) (before-some again)
 
   pub head-small : x .code < 10000000
   unfolding moved-to
-  head-small = rw (b .next .moved) (counts-fit ready (b .laid) (b .passed .inside) .0)
+  head-small = rw (b .next .moved) (counts-got ready (b .test) .0)
 
   -- what the body's reader may be called with
   pub ready-headed : {v : Walk} → v ≡ one-more x 0 → Ready sizes text names v allow
-  ready-headed e = let a = past-head in rw (e, b .next .moved) (ready-body ready (b .laid) (x .at) (a .later) (a .inside) (a .clean))
+  ready-headed e = let a = past-head in rw (e, b .next .moved) (ready-body ready (b .test .laid) (x .at) (a .later) (a .inside) (a .clean))
 
 -- and a body after them, by the walk to y
 pub record Bodied (again : Bool) (text names : List ℕ) (table : List ℤ) (w : Walk) (allow : ℕ) (names₂ : List ℕ) (table₂ : List ℤ) (x y : Walk) : Type 0 where
@@ -131,7 +126,7 @@ module _ {again : Bool} {sizes : Sizes} {text names names₂ : List ℕ} {table 
       let h = b .head in
       let g = rw (h .next .moved) at (b .body) in
       rw (h .next .moved)
-      (guarded again (h .test) (g .what), rw (ended-at again) (guarded-leads _ _ (h .passed) again (h .next .met) .passes (g .what) (g .passed)), lays-guarded again (x .at) (past-head ready h .later) (h .laid) (g .laid))
+      (guarded again (h .test .what) (g .what), rw (ended-at again) (guarded-leads _ _ (h .test .passed) again (h .next .met) .passes (g .what) (g .passed)), lays-guarded again (x .at) (past-head ready h .later) (h .test .laid) (g .laid))
 
 -- ---- the commands of a block
 

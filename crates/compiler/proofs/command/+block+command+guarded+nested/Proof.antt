@@ -16,10 +16,11 @@ use Rattle.compiler.specs.Walks.{Reads, want-nested}
 use Rattle.compiler.proofs.Bodies.{First, first-seen, ready-begun, reads-begun, Headed, headed, head-small, ready-headed, Bodied, bodied, body-small, end-small, guarded-read, So-far, so-far-one, ready-so-far, so-far-later, so-far-more, so-far-closed}
 use Rattle.compiler.proofs.Commands.{guarded-leads, block-more, guarded-refused, no-body, block-first, error-read, begins-assign, begins-declare, begins-print, begins-line, begins-string, begins-read, begins-nested, too-deep-begun, no-command}
 use Rattle.compiler.proofs.Lays.{lays-error}
-use Rattle.compiler.proofs.Looked.{seen}
-use Rattle.compiler.proofs.Reading.{missed, clean-passed}
+use Rattle.compiler.proofs.Looked.{Seen}
+use Rattle.compiler.proofs.Reading.{missed}
+use Rattle.compiler.proofs.Passes.{condition-way}
 use Rattle.compiler.proofs.Others.{not-name}
-use Rattle.compiler.proofs.Replies.{sizes-of, code-fits}
+use Rattle.compiler.proofs.Replies.{Got, got, ready-seen, sizes-of, code-fits, ready-got}
 use Rattle.compiler.proofs.Stores.{count-fits}
 use borrow.Fn.Kinds.{In}
 use borrow.Fn.PlainCycle.{Measures, is, falls, and}
@@ -145,6 +146,10 @@ block-read t c = c .loop .inv .2 _ _ (so-far-one (c .before .before .first .give
 block-look-requires : (t : ℕ) → block-lts.Need-look-requires (block-claims t) (block-at t) block.Post block-Inv-loop block-μ-loop
 block-look-requires t c κs = ready-so-far (c .before .before .before .before .before .before .before .before .before .before .before .before .pre .1) (block-read t (c)) .clean
 
+-- the lexeme after them
+block-seen : (t : ℕ) (c : block-lts.After-look (block-claims t) (block-at t) block.Post block-Inv-loop block-μ-loop) → Seen (now (c .before .before .before .before .before .before .before .before .before .before .before .before .before .args .text)) (c .before .loop .done .at) (c .look .result)
+block-seen t c = ready-seen (ready-so-far (c .before .before .before .before .before .before .before .before .before .before .before .before .before .pre .1) (block-read t (c .before))) (c .look .ensures)
+
 block-fixed-of-requires : (t : ℕ) → block-lts.Need-fixed-of-requires (block-claims t) (block-at t) block.Post block-Inv-loop block-μ-loop
 block-fixed-of-requires t c κs = search needs
 
@@ -161,7 +166,7 @@ block-same-length-4 : (t : ℕ) → block-lts.Need-same-length-4 (block-claims t
 block-same-length-4 t c = search needs
 
 block-returns-2 : (t : ℕ) → block-lts.Need-returns-2 (block-claims t) (block-at t) block.Post block-Inv-loop block-μ-loop
-block-returns-2 t c = rw (c .moved .ensures, c .before .before .before .close .ensures) (so-far-closed (block-read t (c .before .before .before .before .before .before .before .before)) (seen _ _ _ _ (ready-so-far (c .before .before .before .before .before .before .before .before .before .before .before .before .before .before .before .before .before .before .before .before .pre .1) (block-read t (c .before .before .before .before .before .before .before .before)) .clean) (c .before .before .before .before .before .before .before .look .ensures)) (c .before .before .before .before .before .before .fixed-of .ensures) (c .before .before .before .before .before .if1 .taken))
+block-returns-2 t c = rw (c .moved .ensures, c .before .before .before .close .ensures) (so-far-closed (block-read t (c .before .before .before .before .before .before .before .before)) (block-seen t (c .before .before .before .before .before .before .before)) (c .before .before .before .before .before .before .fixed-of .ensures) (c .before .before .before .before .before .if1 .taken))
 
 block-command-requires-2 : (t : ℕ) → block-lts.Need-command-requires-2 (block-claims t) (block-at t) block.Post block-Inv-loop block-μ-loop
 block-command-requires-2 t c κs = (omega (arith, c .before .before .before .before .before .before .before .before .before .before .before .before .before .before .before .before .before .pre .0), ready-so-far (c .before .before .before .before .before .before .before .before .before .before .before .before .before .before .before .before .before .pre .1) (block-read t (c .before .before .before .before .before)))
@@ -180,7 +185,7 @@ block-same-length-6 t c = search needs
 
 block-returns-3 : (t : ℕ) → block-lts.Need-returns-3 (block-claims t) (block-at t) block.Post block-Inv-loop block-μ-loop
 unfolding Reads
-block-returns-3 t c = rw (c .enum-told2 .given .1) (block-more _ _ ((block-read t (c .before .before .before .before .before .before .before .before .before .before .before)) .passed) (seen _ _ _ _ (ready-so-far (c .before .before .before .before .before .before .before .before .before .before .before .before .before .before .before .before .before .before .before .before .before .before .before .pre .1) (block-read t (c .before .before .before .before .before .before .before .before .before .before .before)) .clean) (c .before .before .before .before .before .before .before .before .before .before .look .ensures)) (λ h. c .before .before .before .before .before .before .before .before .if1 .left (c .before .before .before .before .before .before .before .before .before .fixed-of .ensures ∙ h)) .refuses _ _ (rw (c .enum-told2 .given .1) at (c .before .before .before .before .before .command2 .ensures)))
+block-returns-3 t c = rw (c .enum-told2 .given .1) (block-more _ _ (block-read t (c .before .before .before .before .before .before .before .before .before .before .before) .passed) (block-seen t (c .before .before .before .before .before .before .before .before .before .before)) (λ h. c .before .before .before .before .before .before .before .before .if1 .left (c .before .before .before .before .before .before .before .before .before .fixed-of .ensures ∙ h)) .refuses _ _ (rw (c .enum-told2 .given .1) at (c .before .before .before .before .before .command2 .ensures)))
 
 block-larger-requires : (t : ℕ) → block-lts.Need-larger-requires (block-claims t) (block-at t) block.Post block-Inv-loop block-μ-loop
 block-larger-requires t c κs = search needs
@@ -193,7 +198,7 @@ unfolding needing
 block-loop-less t c = rw (c .with-need .ensures) (omega (arith, so-far-later (c .before .before .before .before .before .before .before .before .before .before .before .before .before .before .before .before .before .before .before .before .before .before .before .before .before .before .pre .1) (block-read t (c .before .before .before .before .before .before .before .before .before .before .before .before .before .before)) _ _ (c .before .before .before .r .given .1) (c .before .before .before .before .before .before .before .before .command2 .ensures)))
 
 block-loop-again : (t : ℕ) → block-lts.Need-loop-again (block-claims t) (block-at t) block.Post block-Inv-loop block-μ-loop
-block-loop-again t c = (omega (arith, c .before .before .before .before .before .before .before .before .command2 .kept .1 .0, c .before .before .before .before .before .before .before .before .before .before .before .before .before .before .loop .inv .0), omega (arith, c .before .before .before .before .before .before .before .before .command2 .kept .1 .1 .0, c .before .before .before .before .before .before .before .before .before .before .before .before .before .before .loop .inv .1), λ names₁ table₁ x. rw (c .with-need .ensures, c .before .larger .ensures) (so-far-more (c .before .before .before .before .before .before .before .before .before .before .before .before .before .before .loop .inv .2 names₁ table₁ x) (seen _ _ _ _ (ready-so-far (c .before .before .before .before .before .before .before .before .before .before .before .before .before .before .before .before .before .before .before .before .before .before .before .before .before .before .pre .1) (block-read t (c .before .before .before .before .before .before .before .before .before .before .before .before .before .before)) .clean) (c .before .before .before .before .before .before .before .before .before .before .before .before .before .look .ensures)) (c .before .before .before .before .before .before .before .before .before .before .before .before .fixed-of .ensures) (c .before .before .before .before .before .before .before .before .before .before .before .if1 .left) (c .before .before .before .r .given .1) (c .before .before .before .before .before .before .before .before .command2 .ensures)))
+block-loop-again t c = (omega (arith, c .before .before .before .before .before .before .before .before .command2 .kept .1 .0, c .before .before .before .before .before .before .before .before .before .before .before .before .before .before .loop .inv .0), omega (arith, c .before .before .before .before .before .before .before .before .command2 .kept .1 .1 .0, c .before .before .before .before .before .before .before .before .before .before .before .before .before .before .loop .inv .1), λ names₁ table₁ x. rw (c .with-need .ensures, c .before .larger .ensures) (so-far-more (c .before .before .before .before .before .before .before .before .before .before .before .before .before .before .loop .inv .2 names₁ table₁ x) (block-seen t (c .before .before .before .before .before .before .before .before .before .before .before .before .before)) (c .before .before .before .before .before .before .before .before .before .before .before .before .fixed-of .ensures) (c .before .before .before .before .before .before .before .before .before .before .before .if1 .left) (c .before .before .before .r .given .1) (c .before .before .before .before .before .before .before .before .command2 .ensures)))
 
 command-look-requires : (t : ℕ) → command-lts.Need-look-requires (command-claims t) (command-at t) command.Post
 command-look-requires t c κs = c .before .before .pre .1 .clean
@@ -336,12 +341,15 @@ guarded-returns : (t : ℕ) → guarded-lts.Need-returns (guarded-claims t) (gua
 unfolding Reads
 guarded-returns t c = rw (c .enum-told .given .1) (guarded-refused _ _ _ _ _ _ (rw (c .enum-told .given .1) at (c .before .before .before .condition .ensures)))
 
+-- the condition
+guarded-test : (t : ℕ) (c : guarded-lts.After-r (guarded-claims t) (guarded-at t) guarded.Post) → Got condition-way (now (c .before .before .before .before .before .before .before .before .args .text)) (now (c .before .before .before .before .before .before .before .before .args .names)) (now (c .before .before .before .before .before .before .before .before .args .table)) (c .before .before .before .before .before .before .before .before .args .w) (c .before .before .before .before .before .before .before .before .args .allow) (now (c .before .before .before .before .before .before .before .before .args .names)) (c .before .before .before .condition .last .1 .1 .0) (c .r .given .0 .0)
+guarded-test t c = got condition-way (c .r .given .1) (c .before .before .before .condition .ensures)
+
 guarded-before-body-requires : (t : ℕ) → guarded-lts.Need-before-body-requires (guarded-claims t) (guarded-at t) guarded.Post
 guarded-before-body-requires t c κs = search needs
 
 guarded-expect-requires : (t : ℕ) → guarded-lts.Need-expect-requires (guarded-claims t) (guarded-at t) guarded.Post
-unfolding Reads
-guarded-expect-requires t c κs = clean-passed _ ((rw (c .before .before .r .given .1) at (c .before .before .before .before .before .condition .ensures)) .1) (c .before .before .before .before .before .before .before .before .before .before .pre .1 .clean)
+guarded-expect-requires t c κs = ready-got (c .before .before .before .before .before .before .before .before .before .before .pre .1) (guarded-test t (c .before .before)) .clean
 
 guarded-enum-known-s : (t : ℕ) → guarded-lts.Need-enum-known-s (guarded-claims t) (guarded-at t) guarded.Post
 guarded-enum-known-s t c = search needs
@@ -357,11 +365,11 @@ guarded-same-length-4 t c = search needs
 
 guarded-returns-2 : (t : ℕ) → guarded-lts.Need-returns-2 (guarded-claims t) (guarded-at t) guarded.Post
 unfolding Reads
-guarded-returns-2 t c = let g = (rw (c .before .before .before .before .before .r .given .1) at (c .before .before .before .before .before .before .before .before .condition .ensures)) in rw (c .enum-told2 .given .1) (no-body _ _ (g .1) _ (missed _ _ _ _ _ _ (clean-passed _ (g .1) (c .before .before .before .before .before .before .before .before .before .before .before .before .before .pre .1 .clean)) (rw (c .enum-told2 .given .1, c .before .before .before .before-body .ensures) at (c .before .before .expect .ensures))))
+guarded-returns-2 t c = let g = guarded-test t (c .before .before .before .before .before) in rw (c .enum-told2 .given .1) (no-body _ (g .what) (g .passed) _ (missed _ _ _ _ _ _ (ready-got (c .before .before .before .before .before .before .before .before .before .before .before .before .before .pre .1) g .clean) (rw (c .enum-told2 .given .1, c .before .before .before .before-body .ensures) at (c .before .before .expect .ensures))))
 
--- the condition, and the lexeme before the body
+-- and the lexeme before the body
 guarded-head : (t : ℕ) (c : guarded-lts.After-s (guarded-claims t) (guarded-at t) guarded.Post) → Headed (c .before .before .before .before .before .before .before .before .before .before .before .before .before .args .again) (now (c .before .before .before .before .before .before .before .before .before .before .before .before .before .args .text)) (now (c .before .before .before .before .before .before .before .before .before .before .before .before .before .args .names)) (now (c .before .before .before .before .before .before .before .before .before .before .before .before .before .args .table)) (c .before .before .before .before .before .before .before .before .before .before .before .before .before .args .w) (c .before .before .before .before .before .before .before .before .before .before .before .before .before .args .allow) (c .before .before .before .before .before .before .before .before .condition .last .1 .1 .0) (c .s .given .0 .0)
-guarded-head t c = headed (c .before .before .before .before .before .before .before .before .before .before .before .before .before .pre .1) (c .before .before .before .before .before .r .given .1) (c .before .before .before .before .before .before .before .before .condition .ensures) (c .before .before .before .before-body .ensures) (c .s .given .1) (c .before .before .expect .ensures)
+guarded-head t c = headed (c .before .before .before .before .before .before .before .before .before .before .before .before .before .pre .1) (guarded-test t (c .before .before .before .before .before)) (c .before .before .before .before-body .ensures) (c .s .given .1) (c .before .before .expect .ensures)
 
 guarded-skipped-requires : (t : ℕ) → guarded-lts.Need-skipped-requires (guarded-claims t) (guarded-at t) guarded.Post
 guarded-skipped-requires t c κs = head-small (c .before .before .before .before .before .before .before .before .before .before .before .before .before .before .before .before .pre .1) (guarded-head t (c .before .before .before))
@@ -383,7 +391,7 @@ guarded-same-length-6 t c = search needs
 
 guarded-returns-3 : (t : ℕ) → guarded-lts.Need-returns-3 (guarded-claims t) (guarded-at t) guarded.Post
 unfolding Reads one-more
-guarded-returns-3 t c = let b = guarded-head t (c .before .before .before .before .before .before .before .before .before .before) in rw (c .enum-told3 .given .1) (guarded-leads _ _ (b .passed) _ (b .next .met) .refuses _ _ (rw (c .before .before .before .before .before .before .skipped .ensures, c .enum-told3 .given .1) at (c .before .before .before .before .before .command .ensures)))
+guarded-returns-3 t c = let b = guarded-head t (c .before .before .before .before .before .before .before .before .before .before) in rw (c .enum-told3 .given .1) (guarded-leads _ _ (b .test .passed) _ (b .next .met) .refuses _ _ (rw (c .before .before .before .before .before .before .skipped .ensures, c .enum-told3 .given .1) at (c .before .before .before .before .before .command .ensures)))
 
 -- and the body
 guarded-body : (t : ℕ) (c : guarded-lts.After-t (guarded-claims t) (guarded-at t) guarded.Post) → Bodied (c .before .before .before .before .before .before .before .before .before .before .before .before .before .before .before .before .before .before .before .before .before .before .before .args .again) (now (c .before .before .before .before .before .before .before .before .before .before .before .before .before .before .before .before .before .before .before .before .before .before .before .args .text)) (now (c .before .before .before .before .before .before .before .before .before .before .before .before .before .before .before .before .before .before .before .before .before .before .before .args .names)) (now (c .before .before .before .before .before .before .before .before .before .before .before .before .before .before .before .before .before .before .before .before .before .before .before .args .table)) (c .before .before .before .before .before .before .before .before .before .before .before .before .before .before .before .before .before .before .before .before .before .before .before .args .w) (c .before .before .before .before .before .before .before .before .before .before .before .before .before .before .before .before .before .before .before .before .before .before .before .args .allow) (c .before .before .before .before .before .command .last .1 .0) (c .before .before .before .before .before .command .last .1 .1 .0) (c .before .before .before .before .before .before .before .before .before .before .s .given .0 .0) (c .t .given .0 .0)

@@ -7,16 +7,15 @@ use lib.IntN.{pos}
 use mir.Facts.{toZ-ofZ}
 use mir.Syntax.{w32}
 use mir.Val.{SFits}
-use Rattle.sentence.specs.Sentences.{assign}
-use Rattle.compiler.specs.Scopes.{word-at, name-at}
-use Rattle.compiler.specs.Steps.{moved-to, one-more, cell-number}
+use Rattle.compiler.specs.Scopes.{word-at}
+use Rattle.compiler.specs.Steps.{moved-to, cell-number}
 use Rattle.compiler.specs.Walks.{Ready, Reads}
 use Rattle.compiler.proofs.Bodies.{assigned}
 use Rattle.compiler.proofs.Commands.{assign-way, assign-leads, no-becomes}
 use Rattle.compiler.proofs.Found.{found-below}
 use Rattle.compiler.proofs.Lays.{noted-beside, ready-noted}
 use Rattle.compiler.proofs.Passes.{expression-way}
-use Rattle.compiler.proofs.Reading.{Met, missed, after-met}
+use Rattle.compiler.proofs.Reading.{Met, missed}
 use Rattle.compiler.proofs.Replies.{Got, got, done, sizes-of, counts-got}
 use Rattle.compiler.proofs.Expected.{Expected, expected, ready-expected}
 use Rattle.compiler.proofs.Stores.{count-fits}
