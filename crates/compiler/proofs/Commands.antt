@@ -4,7 +4,7 @@ use mathlib.Core.List.{List, [], _∷_}
 use mathlib.Core.Bool.{Bool, true, false}
 use mathlib.Core.Logic.{inl, inr}
 use Prim.Native.Nat.{ℕ, suc, _+_, _≤_, _<_}
-use native.Mathlib.Nat.{add-zero}
+use native.Mathlib.Nat.{add-zero, le-refl}
 use native.Mathlib.Numerals.{add-one}
 use native.Mathlib.Omega.{arith}
 use types.Run.{OneOf}
@@ -21,7 +21,7 @@ use Rattle.compiler.specs.Steps.{fixed-number, before-body}
 use Rattle.compiler.specs.Walks.{want-quoted, want-guarded, want-nested}
 use Rattle.compiler.proofs.Lays.{quoted, guarded}
 use Rattle.compiler.proofs.Looked.{Seen, quoted-at, seen-name, seen-string, seen-fixed, no-fixed, no-name, no-string}
-use Rattle.compiler.proofs.Reading.{from-via, ended, Comes, Stuck, comes-on, comes-stuck, comes-within, stuck-within, alike, onward, none, too-deep, Way, Passed, Barred, comes, passes, stuck, refuses, Leads, leads, begins, refuses-within, Met, Missed}
+use Rattle.compiler.proofs.Reading.{from-via, ended, Comes, Stuck, comes-on, comes-stuck, comes-within, stuck-within, alike, onward, none, too-deep, Way, Passed, Barred, comes, passes, stuck, refuses, Leads, leads, begins, refuses-within, Met, Missed, stays, crosses}
 use Rattle.compiler.proofs.Passes.{expression-way, condition-way}
 
 -- ---- the ways of the readers
@@ -102,14 +102,7 @@ module _ {text : List ℕ} {at : ℕ} {r : code.Lexeme} (s : Seen text at r) (al
 module _ {text : List ℕ} {at : ℕ} (allow : ℕ) (x : Name) where
   pub assign-leads : {e : ℕ} → Met text at 58 e → Leads text at e allow (assign-way x) allow expression-way (assign x)
   unfolding depth step on is code-of verdict whole-expression
-  assign-leads met =
-      let s = met .seen in
-      let e = seen-fixed s becomes (met .number) in
-      let g : is end (s .what) ≡ false = rw e in
-      rw (met .ends)
-      (leads (in-assign x) (omega (arith, s .later g)) (λ a. refl)
-      (onward s (λ a. step (want-becomes x a)) g (λ a. want-expression (in-assign x a)) (λ a. rw e) (λ a. omega arith))
-      (λ d. refl))
+  assign-leads met = rw (met .ends) (crosses (met .seen) (in-assign x) (le-refl at) stays (seen-fixed (met .seen) becomes (met .number)) refl (λ a. refl) (λ a. refl) (λ a. omega arith) (λ d. refl))
 
   pub no-becomes : {n p : ℕ} → Missed text at 58 n p → Barred (assign-way x) text at allow n p
   unfolding step on code-of
@@ -131,14 +124,8 @@ module _ {text : List ℕ} {at m : ℕ} (allow : ℕ) (c : Sen Name condition) (
       → Leads text at e (suc allow) (command-from (λ a. want-condition (inner a))) allow command-way makes
   unfolding verdict
   body-leads inner body makes w d d′ to stops on-it met =
-      let s = met .seen in
-      let e = seen-fixed s w (met .number) in
-      let g : is end (s .what) ≡ false = rw e on-it in
       rw (met .ends)
-      (leads body (omega (arith, p .later, s .later g)) (λ a. rw (d′ a) (omega arith))
-      (comes-on (comes-within inner (λ a. rw (d a) (omega arith)) (comes p))
-      (onward s (λ a. after-condition c (inner a)) g (λ a. want-command (body a)) (λ a. rw e (to a)) (λ a. rw (d′ a) (omega arith))))
-      stops)
+      (crosses (met .seen) body (omega (arith, p .later)) (comes-within inner (λ a. rw (d a) (omega arith)) (comes p)) (seen-fixed (met .seen) w (met .number)) on-it (λ a. rw (d′ a) (omega arith)) to (λ a. rw (d′ a) (omega arith)) stops)
 
   unled : (inner : Around command → Around condition) (w : Fixed)
       → ((a : Around command) → depth (inner a) ≡ suc (depth a))
@@ -236,10 +223,7 @@ module _ {text : List ℕ} {at : ℕ} {r : code.Lexeme} (s : Seen text at r) whe
   module _ {deeper : ℕ} {start : Around command → State} (b : Begins deeper start) where
     pub begun-leads : {allow allow′ : ℕ} → deeper ≤ allow → allow′ ≡ allow → Leads text at (r .end) allow command-way allow′ (command-from start) (λ m. m)
     unfolding step
-    begun-leads d e =
-        leads (λ a. a) (omega (arith, s .later (b .going))) (λ a. omega arith)
-        (onward s (λ a. step (want-command a)) (b .going) start (b .to) (λ a. rw (b .deep a) (omega arith)))
-        (λ m. refl)
+    begun-leads d e = crosses s (λ a. a) (le-refl at) stays refl (b .going) (λ a. omega arith) (b .to) (λ a. rw (b .deep a) (omega arith)) (λ m. refl)
 
     pub too-deep-begun : {allow : ℕ} → allow < deeper → Barred command-way text at allow 5 (r .place)
     unfolding step

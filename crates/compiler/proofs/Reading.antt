@@ -202,6 +202,23 @@ module _ {k k′ : Kind} {X X′ : Type 0} {text : List ℕ} {at e allow : ℕ} 
     refuses = λ n p q. refuses text at allow (way .start) n p (comes-stuck c (stuck-within inner same-limit (stuck text e allow′ (way′ .start) n p q)));
   }
 
+-- nothing is read
+pub stays : {I : Type 0} {text : List ℕ} {at : ℕ} {limit : I → ℕ} {f : I → Lexeme → State} → Comes text at at limit f f
+stays = record { same = λ sizes ls h. (ls, h, λ i. refl) }
+
+-- the lexeme l stands between what was read and what is read next
+pub crosses : {k k′ : Kind} {X X′ : Type 0} {text : List ℕ} {at m allow : ℕ} {way : Way k X} {allow′ : ℕ} {way′ : Way k′ X′} {makes : X′ → X} {r : code.Lexeme} {stop : Around k → Lexeme → State} {l : Lexeme} (s : Seen text m r) (inner : Around k → Around k′)
+    → at ≤ m → Comes text at m (λ (a : Around k). depth a + allow) (λ a. step (way .start a)) stop
+    → s .what ≡ l → is end l ≡ false
+    → ((a : Around k) → depth (inner a) + allow′ ≡ depth a + allow)
+    → ((a : Around k) → stop a l ≡ way′ .start (inner a))
+    → ((a : Around k) → Low (depth a + allow) (verdict (way′ .start (inner a))))
+    → ((x : X′) → _≡_ {A = Around k → Lexeme → State} (λ a. way′ .stop x (inner a)) (way .stop (makes x)))
+    → Leads text at (r .end) allow way allow′ way′ makes
+crosses {way′} {stop} s inner near c e g d t low stops =
+    let b : is end (s .what) ≡ false = rw e g in
+    leads inner (omega (arith, s .later b)) d (comes-on c (onward s stop b (λ a. way′ .start (inner a)) (λ a. rw e (t a)) low)) stops
+
 -- a construct that begins with another, where nothing was read yet
 pub begins : {k k′ : Kind} {X X′ : Type 0} (text : List ℕ) (at allow : ℕ) (way : Way k X) (allow′ : ℕ) (way′ : Way k′ X′) (makes : X′ → X) (inner : Around k → Around k′)
     → ((a : Around k) → depth (inner a) + allow′ ≡ depth a + allow)
@@ -211,7 +228,7 @@ pub begins : {k k′ : Kind} {X X′ : Type 0} (text : List ℕ) (at allow : ℕ
 begins {k} text at allow way allow′ way′ makes inner d e stops =
     leads inner (le-refl at) d
     (subst (λ (f : Around k → State). Comes text at at (λ (a : Around k). depth a + allow) (λ a. step (way .start a)) (λ a. step (f a))) e
-    (record { same = λ sizes ls h. (ls, h, λ a. refl) })) stops
+    stays) stops
 
 pub refuses-within : {k k′ : Kind} (text : List ℕ) (at allow allow′ : ℕ) (start′ : Around k′ → State) (n p : ℕ) (inner : Around k → Around k′)
     → ((a : Around k) → depth (inner a) + allow′ ≡ depth a + allow)
