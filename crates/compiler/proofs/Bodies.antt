@@ -6,13 +6,12 @@ use Prim.Native.Nat.{ℕ, suc, _+_, _-_, _≤_, _<_, max}
 use native.Mathlib.Nat.{le-refl}
 use native.Mathlib.Omega.{arith}
 use lib.IntN.{ℤ, pos}
-use lib.ListN.{length, replicate}
+use lib.ListN.{replicate}
 use lib.Seq.{sets}
 use Rattle.lexeme.specs.Coded.{code-of}
-use Rattle.lexeme.specs.Lexemes.{Name, Sizes, end}
-use Rattle.lexeme.specs.declared.Kind.the-variants as kind
+use Rattle.lexeme.specs.Lexemes.{Sizes, end}
 use Rattle.lexeme.specs.declared.Lexeme as code
-use Rattle.sentence.specs.Sentences.{Sen, condition, command, commands, assign, block, single, then}
+use Rattle.sentence.specs.Sentences.{command, assign, block, single, then}
 use Rattle.sentence.specs.Reader.{Around, State, after-command}
 use Rattle.compiler.specs.declared.walk.Walk.{Walk}
 use Rattle.compiler.specs.declared.walk.Read.{Read}
@@ -22,13 +21,13 @@ use Rattle.compiler.specs.Lexing.{Looks, Expects}
 use Rattle.compiler.specs.Scopes.{name-at}
 use Rattle.compiler.specs.Steps.{fixed-number, moved-to, one-more, needing, noted-walk, cell-number, before-body, ended-walk, ended-table}
 use Rattle.compiler.specs.Tables.{put}
-use Rattle.compiler.specs.Walks.{Lays, Ready, Reads, Reads-command, Reads-guarded, Reads-block}
+use Rattle.compiler.specs.Walks.{Ready, Reads, Reads-command, Reads-guarded, Reads-block}
 use Rattle.compiler.proofs.Commands.{command-way, assign-way, assign-leads, Begins, begun-leads, block-so-far, guarded-leads, block-first, block-more, block-closed}
 use Rattle.compiler.proofs.Expected.{Expected, expected}
-use Rattle.compiler.proofs.Lays.{guarded, its-cell, noted-beside, lays-assign, lead, lays-guarded, lays-single, lays-then, lays-block, counts-fit, ready-after, ready-body}
+use Rattle.compiler.proofs.Lays.{guarded, its-cell, noted-beside, lays-assign, lead, lays-guarded, lays-single, lays-then, lays-block, ready-body}
 use Rattle.compiler.proofs.Looked.{Seen, no-fixed}
 use Rattle.compiler.proofs.Passes.{expression-way, condition-way}
-use Rattle.compiler.proofs.Reading.{Passed, Met, After, after, after-met, clean-passed}
+use Rattle.compiler.proofs.Reading.{Met, After, after, after-met}
 use Rattle.compiler.proofs.Replies.{Got, got, handed-on, ready-seen, ready-next, ready-got, counts-got}
 
 -- ---- the first lexeme of a command
@@ -131,34 +130,19 @@ module _ {again : Bool} {sizes : Sizes} {text names names₂ : List ℕ} {table 
 -- ---- the commands of a block
 
 -- those read and written so far, by the walk from w to v
-pub record So-far (text names : List ℕ) (table : List ℤ) (w : Walk) (allow : ℕ) (names′ : List ℕ) (table′ : List ℤ) (v : Walk) : Type 0 where
-  pub all : Sen Name commands
-  pub passed : Passed block-so-far text (w .at) (v .at) (suc allow) all
-  pub laid : Lays text names table w all names′ table′ v
+abbrev pub So-far : List ℕ → List ℕ → List ℤ → Walk → ℕ → List ℕ → List ℤ → Walk → Type 0
+So-far text names table w allow = Got block-so-far text names table w (suc allow)
 
-pub so-far-one : {q : Read} {text names : List ℕ} {table : List ℤ} {w : Walk} {allow : ℕ} {names′ : List ℕ} {table′ : List ℤ} {v : Walk} → q ≡ Done v → Reads-command text names table w allow q names′ table′ → So-far text names table w allow names′ table′ v
-unfolding Reads
-so-far-one d h = let g = rw d at h in record { all = single (g .0); passed = block-first _ _ _ .passes (g .0) (g .1); laid = lays-single (g .2) }
-
-module _ {sizes : Sizes} {text names names′ : List ℕ} {table table′ : List ℤ} {w v : Walk} {allow : ℕ} (ready : Ready sizes text names w allow) (b : So-far text names table w allow names′ table′ v) where
-  pub ready-so-far : Ready sizes text names′ v allow
-  unfolding moved-to
-  ready-so-far = ready-after ready (b .laid) (v .at) (le-refl _) (b .passed .inside) (clean-passed _ (b .passed) (ready .clean))
-
-  pub so-far-later : {q : Read} {u : Walk} (names₂ : List ℕ) (table₂ : List ℤ) → q ≡ Done u → Reads-command text names′ table′ v allow q names₂ table₂ → (v .at < u .at) × (u .at ≤ length text)
-  unfolding Reads
-  so-far-later names₂ table₂ d h = let g = rw d at h in (g .1 .later, g .1 .inside)
+pub so-far-one : {text names names′ : List ℕ} {table table′ : List ℤ} {w v : Walk} {allow : ℕ} → Got command-way text names table w allow names′ table′ v → So-far text names table w allow names′ table′ v
+so-far-one g = record { what = single (g .what); passed = block-first _ _ _ .passes (g .what) (g .passed); laid = lays-single (g .laid) }
 
 module _ {text names names′ : List ℕ} {table table′ : List ℤ} {w v : Walk} {allow f : ℕ} {r : code.Lexeme} (b : So-far text names table w allow names′ table′ v) (s : Seen text (v .at) r) (number : f ≡ fixed-number (r .kind)) where
-  pub so-far-more : {q : Read} {names₂ : List ℕ} {table₂ : List ℤ} {u : Walk} → (f ≡ 125 → ⊥) → q ≡ Done u → Reads-command text names′ table′ v allow q names₂ table₂
-      → So-far text names table w allow names₂ table₂ (needing u (max (v .need) (u .need)))
-  unfolding Reads needing
-  so-far-more n d h =
-      let g = rw d at h in
-      record { all = then (b .all) (g .0); passed = block-more _ _ (b .passed) s (λ z. n (number ∙ z)) .passes (g .0) (g .1); laid = lays-then (b .laid) (g .2) }
+  pub so-far-more : {names₂ : List ℕ} {table₂ : List ℤ} {u : Walk} → (f ≡ 125 → ⊥) → Got command-way text names′ table′ v allow names₂ table₂ u → So-far text names table w allow names₂ table₂ (needing u (max (v .need) (u .need)))
+  unfolding needing
+  so-far-more n g = record { what = then (b .what) (g .what); passed = block-more _ _ (b .passed) s (λ z. n (number ∙ z)) .passes (g .what) (g .passed); laid = lays-then (b .laid) (g .laid) }
 
   pub so-far-closed : f ≡ 125 → Reads-block text names table w allow (Done (moved-to v (r .end))) (sets names′ (w .declared) (replicate (v .declared - w .declared) 0)) table′
   unfolding Reads moved-to code-of
   so-far-closed n =
       let g = no-fixed s end (λ z. omega (arith, number, n, z)) in
-      (block (b .all), block-closed _ _ (b .passed) s (sym number ∙ n), lays-block (r .end) (omega (arith, s .later g)) (b .laid))
+      (block (b .what), block-closed _ _ (b .passed) s (sym number ∙ n), lays-block (r .end) (omega (arith, s .later g)) (b .laid))

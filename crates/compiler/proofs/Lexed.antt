@@ -1,6 +1,6 @@
 -- The lexemes from a place on, by what stands next, and what the code holds of the first. Assumes nothing.
-use Prim.Native.Nat.{ℕ, zero, suc, _-_, _≤_, _<_}
-use mathlib.Core.Path.{_≡_, refl, sym, ap, subst, _∙_}
+use Prim.Native.Nat.{ℕ, suc, _-_, _≤_, _<_}
+use mathlib.Core.Path.{_≡_, refl, sym, ap, _∙_}
 use mathlib.Core.List.{List, [], _∷_}
 use native.Mathlib.Omega.{arith}
 use types.Run.{OneOf, miss}
@@ -48,25 +48,6 @@ module _ (sizes : Sizes) (text : List ℕ) where
       by-step : Lexed sizes text at ls → (x : Next) × (next sizes text at ≡ given x)
       by-step (a-lexeme l e ks n _ _ _ _) = (lexeme l e, n)
       by-step (the-end n _) = (nothing, n)
-
--- the lexemes of a text are the same under any limits under which none is refused
-module _ (s s′ : Sizes) (text : List ℕ) where
-  agree : (fuel at : ℕ) (ls ls′ : List Placed) → length text - at < fuel → Lexes s text at ls → Lexes s′ text at ls′ → ls ≡ ls′
-  agree zero at ls ls′ h g g′ = absurd (omega arith)
-  agree (suc fuel) at ls ls′ h g g′ = by-step (λ e ks ks′ later inside. agree fuel e ks ks′ (omega arith)) (lexes-step s text at ls g) (lexes-step s′ text at ls′ g′)
-    where
-      by-step : ((e : ℕ) (ks ks′ : List Placed) → at < e → e ≤ length text → Lexes s text e ks → Lexes s′ text e ks′ → ks ≡ ks′) → Lexed s text at ls → Lexed s′ text at ls′ → ls ≡ ls′
-      by-step again (a-lexeme l e ks n split later inside after) (a-lexeme l′ e′ ks′ n′ split′ _ _ after′) =
-          let both = next-agrees s s′ text at (lexeme l e) (lexeme l′ e′) n n′ in
-          let e-same : e′ ≡ e = cc in
-          let rest-same = again e ks ks′ later inside after (subst (λ (k : ℕ). Lexes s′ text k ks′) e-same after′) in
-          cc
-      by-step again (a-lexeme l e ks n _ _ _ _) (the-end n′ _) = let both = next-agrees s s′ text at (lexeme l e) nothing n n′ in cc
-      by-step again (the-end n _) (a-lexeme l′ e′ ks′ n′ _ _ _ _) = let both = next-agrees s s′ text at nothing (lexeme l′ e′) n n′ in cc
-      by-step again (the-end n split) (the-end n′ split′) = cc
-
-  pub lexes-agree : (at : ℕ) (ls ls′ : List Placed) → Lexes s text at ls → Lexes s′ text at ls′ → ls ≡ ls′
-  lexes-agree at ls ls′ = agree (suc (length text)) at ls ls′ (omega arith)
 
 module _ (most : Sizes) (text : List ℕ) (at : ℕ) (clean : Clean most text at) where
   -- the code's reading is that under any limits

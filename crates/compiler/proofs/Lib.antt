@@ -4,7 +4,6 @@ pub mod Decides
 pub mod Emits
 pub mod Expected
 pub mod Filled
-pub mod Firsts
 pub mod Found
 pub mod Lays
 pub mod Lexed

@@ -26,8 +26,8 @@ use Rattle.compiler.proofs.Passes.{factor-way, term-so-far, term-way, f
 use Rattle.compiler.proofs.Lays.{lays-multiply, lays-add, lays-compare, ready-moved, ready-after, counts-fit}
 
 -- a construct was read and written by the walk from w to v
-pub record Got {k : Kind} (way : Way k (Sen Name k)) (text names : List ℕ) (table : List ℤ) (w : Walk) (allow : ℕ) (names′ : List ℕ) (table′ : List ℤ) (v : Walk) : Type 0 where
-  pub what : Sen Name k
+pub record Got {k j : Kind} (way : Way k (Sen Name j)) (text names : List ℕ) (table : List ℤ) (w : Walk) (allow : ℕ) (names′ : List ℕ) (table′ : List ℤ) (v : Walk) : Type 0 where
+  pub what : Sen Name j
   pub passed : Passed way text (w .at) (v .at) allow what
   pub laid : Lays text names table w what names′ table′ v
 
@@ -73,7 +73,7 @@ module _ {sizes : Sizes} {text names : List ℕ} {w : Walk} {allow : ℕ} (a : R
   pub code-fits : w .code < 10000000
   code-fits = omega (arith, a .code, a .inside, a .short)
 
-  module _ {k : Kind} {way : Way k (Sen Name k)} {names′ : List ℕ} {table table′ : List ℤ} {v : Walk} (g : Got way text names table w allow names′ table′ v) where
+  module _ {k j : Kind} {way : Way k (Sen Name j)} {inside : ℕ} {names′ : List ℕ} {table table′ : List ℤ} {v : Walk} (g : Got way text names table w inside names′ table′ v) where
     pub ready-got : Ready sizes text names′ v allow
     unfolding moved-to
     ready-got = ready-after a (g .laid) (v .at) (le-refl (v .at)) (g .passed .inside) (clean-passed sizes (g .passed) (a .clean))

@@ -13,8 +13,8 @@ use lib.ListN.{length}
 use Rattle.sentence.specs.Sentences.{error}
 use Rattle.compiler.specs.Steps.{moved-to, one-more, needing}
 use Rattle.compiler.specs.Walks.{Reads, want-nested}
-use Rattle.compiler.proofs.Bodies.{First, first-seen, ready-begun, reads-begun, Headed, headed, head-small, ready-headed, Bodied, bodied, body-small, end-small, guarded-read, So-far, so-far-one, ready-so-far, so-far-later, so-far-more, so-far-closed}
-use Rattle.compiler.proofs.Commands.{guarded-leads, block-more, guarded-refused, no-body, block-first, error-read, begins-assign, begins-declare, begins-print, begins-line, begins-string, begins-read, begins-nested, too-deep-begun, no-command}
+use Rattle.compiler.proofs.Bodies.{First, first-seen, ready-begun, reads-begun, Headed, headed, head-small, ready-headed, Bodied, bodied, body-small, end-small, guarded-read, So-far, so-far-one, so-far-more, so-far-closed}
+use Rattle.compiler.proofs.Commands.{command-way, guarded-leads, block-more, guarded-refused, no-body, block-first, error-read, begins-assign, begins-declare, begins-print, begins-line, begins-string, begins-read, begins-nested, too-deep-begun, no-command}
 use Rattle.compiler.proofs.Lays.{lays-error}
 use Rattle.compiler.proofs.Looked.{Seen}
 use Rattle.compiler.proofs.Reading.{missed}
@@ -141,14 +141,14 @@ block-loop-holds t c = (refl, refl, λ names₁ table₁ x. x)
 
 -- the commands read when the loop's test is reached
 block-read : (t : ℕ) (c : block-lts.At-loop (block-claims t) (block-at t) block.Post block-Inv-loop block-μ-loop) → So-far (now (c .before .before .before .before .before .before .before .before .before .before .before .before .args .text)) (now (c .before .before .before .before .before .before .before .before .before .before .before .before .args .names)) (now (c .before .before .before .before .before .before .before .before .before .before .before .before .args .table)) (c .before .before .before .before .before .before .before .before .before .before .before .before .args .w) (c .before .before .before .before .before .before .before .before .before .before .before .before .args .allow) (c .loop .names) (c .loop .table) (c .loop .done)
-block-read t c = c .loop .inv .2 _ _ (so-far-one (c .before .before .first .given .1) (c .before .before .before .before .before .before .before .command .ensures))
+block-read t c = c .loop .inv .2 _ _ (so-far-one (got command-way (c .before .before .first .given .1) (c .before .before .before .before .before .before .before .command .ensures)))
 
 block-look-requires : (t : ℕ) → block-lts.Need-look-requires (block-claims t) (block-at t) block.Post block-Inv-loop block-μ-loop
-block-look-requires t c κs = ready-so-far (c .before .before .before .before .before .before .before .before .before .before .before .before .pre .1) (block-read t (c)) .clean
+block-look-requires t c κs = ready-got (c .before .before .before .before .before .before .before .before .before .before .before .before .pre .1) (block-read t (c)) .clean
 
 -- the lexeme after them
 block-seen : (t : ℕ) (c : block-lts.After-look (block-claims t) (block-at t) block.Post block-Inv-loop block-μ-loop) → Seen (now (c .before .before .before .before .before .before .before .before .before .before .before .before .before .args .text)) (c .before .loop .done .at) (c .look .result)
-block-seen t c = ready-seen (ready-so-far (c .before .before .before .before .before .before .before .before .before .before .before .before .before .pre .1) (block-read t (c .before))) (c .look .ensures)
+block-seen t c = ready-seen (ready-got (c .before .before .before .before .before .before .before .before .before .before .before .before .before .pre .1) (block-read t (c .before))) (c .look .ensures)
 
 block-fixed-of-requires : (t : ℕ) → block-lts.Need-fixed-of-requires (block-claims t) (block-at t) block.Post block-Inv-loop block-μ-loop
 block-fixed-of-requires t c κs = search needs
@@ -169,7 +169,7 @@ block-returns-2 : (t : ℕ) → block-lts.Need-returns-2 (block-claims t) (block
 block-returns-2 t c = rw (c .moved .ensures, c .before .before .before .close .ensures) (so-far-closed (block-read t (c .before .before .before .before .before .before .before .before)) (block-seen t (c .before .before .before .before .before .before .before)) (c .before .before .before .before .before .before .fixed-of .ensures) (c .before .before .before .before .before .if1 .taken))
 
 block-command-requires-2 : (t : ℕ) → block-lts.Need-command-requires-2 (block-claims t) (block-at t) block.Post block-Inv-loop block-μ-loop
-block-command-requires-2 t c κs = (omega (arith, c .before .before .before .before .before .before .before .before .before .before .before .before .before .before .before .before .before .pre .0), ready-so-far (c .before .before .before .before .before .before .before .before .before .before .before .before .before .before .before .before .before .pre .1) (block-read t (c .before .before .before .before .before)))
+block-command-requires-2 t c κs = (omega (arith, c .before .before .before .before .before .before .before .before .before .before .before .before .before .before .before .before .before .pre .0), ready-got (c .before .before .before .before .before .before .before .before .before .before .before .before .before .before .before .before .before .pre .1) (block-read t (c .before .before .before .before .before)))
 
 block-enum-known-r : (t : ℕ) → block-lts.Need-enum-known-r (block-claims t) (block-at t) block.Post block-Inv-loop block-μ-loop
 block-enum-known-r t c = search needs
@@ -195,10 +195,10 @@ block-with-need-requires t c κs = search needs
 
 block-loop-less : (t : ℕ) → block-lts.Need-loop-less (block-claims t) (block-at t) block.Post block-Inv-loop block-μ-loop
 unfolding needing
-block-loop-less t c = rw (c .with-need .ensures) (omega (arith, so-far-later (c .before .before .before .before .before .before .before .before .before .before .before .before .before .before .before .before .before .before .before .before .before .before .before .before .before .before .pre .1) (block-read t (c .before .before .before .before .before .before .before .before .before .before .before .before .before .before)) _ _ (c .before .before .before .r .given .1) (c .before .before .before .before .before .before .before .before .command2 .ensures)))
+block-loop-less t c = let g = got command-way (c .before .before .before .r .given .1) (c .before .before .before .before .before .before .before .before .command2 .ensures) in rw (c .with-need .ensures) (omega (arith, g .passed .later, g .passed .inside))
 
 block-loop-again : (t : ℕ) → block-lts.Need-loop-again (block-claims t) (block-at t) block.Post block-Inv-loop block-μ-loop
-block-loop-again t c = (omega (arith, c .before .before .before .before .before .before .before .before .command2 .kept .1 .0, c .before .before .before .before .before .before .before .before .before .before .before .before .before .before .loop .inv .0), omega (arith, c .before .before .before .before .before .before .before .before .command2 .kept .1 .1 .0, c .before .before .before .before .before .before .before .before .before .before .before .before .before .before .loop .inv .1), λ names₁ table₁ x. rw (c .with-need .ensures, c .before .larger .ensures) (so-far-more (c .before .before .before .before .before .before .before .before .before .before .before .before .before .before .loop .inv .2 names₁ table₁ x) (block-seen t (c .before .before .before .before .before .before .before .before .before .before .before .before .before)) (c .before .before .before .before .before .before .before .before .before .before .before .before .fixed-of .ensures) (c .before .before .before .before .before .before .before .before .before .before .before .if1 .left) (c .before .before .before .r .given .1) (c .before .before .before .before .before .before .before .before .command2 .ensures)))
+block-loop-again t c = (omega (arith, c .before .before .before .before .before .before .before .before .command2 .kept .1 .0, c .before .before .before .before .before .before .before .before .before .before .before .before .before .before .loop .inv .0), omega (arith, c .before .before .before .before .before .before .before .before .command2 .kept .1 .1 .0, c .before .before .before .before .before .before .before .before .before .before .before .before .before .before .loop .inv .1), λ names₁ table₁ x. rw (c .with-need .ensures, c .before .larger .ensures) (so-far-more (c .before .before .before .before .before .before .before .before .before .before .before .before .before .before .loop .inv .2 names₁ table₁ x) (block-seen t (c .before .before .before .before .before .before .before .before .before .before .before .before .before)) (c .before .before .before .before .before .before .before .before .before .before .before .before .fixed-of .ensures) (c .before .before .before .before .before .before .before .before .before .before .before .if1 .left) (got command-way (c .before .before .before .r .given .1) (c .before .before .before .before .before .before .before .before .command2 .ensures))))
 
 command-look-requires : (t : ℕ) → command-lts.Need-look-requires (command-claims t) (command-at t) command.Post
 command-look-requires t c κs = c .before .before .pre .1 .clean
