@@ -272,68 +272,62 @@ expression-loop-again t c = rw (c .before .joined .ensures .0, c .before .joined
 factor-look-requires : (t : ℕ) → factor-lts.Need-look-requires (factor-calls t) (factor-at t) factor.Post
 factor-look-requires t c κs = search needs
 
-factor-enum-known-kind : (t : ℕ) → factor-lts.Need-enum-known-kind (factor-calls t) (factor-at t) factor.Post
-factor-enum-known-kind t c = search needs
-
 factor-moved-requires : (t : ℕ) → factor-lts.Need-moved-requires (factor-calls t) (factor-at t) factor.Post
 factor-moved-requires t c κs = search needs
 
+factor-enum-known-kind : (t : ℕ) → factor-lts.Need-enum-known-kind (factor-calls t) (factor-at t) factor.Post
+factor-enum-known-kind t c = search needs
+
 factor-cast-emitted : (t : ℕ) → factor-lts.Need-cast-emitted (factor-calls t) (factor-at t) factor.Post
-factor-cast-emitted t c = count-fits (omega (arith, literal-bound _ (c .before .before .before .before .before .before .before .before .pre .1 .clean) (ready-seen (c .before .before .before .before .before .before .before .before .pre .1) (c .before .before .before .before .before .look .ensures)) _ (c .before .before .before .kind .given .1), c .before .before .before .before .before .before .before .before .pre .1 .literal))
+factor-cast-emitted t c = count-fits (omega (arith, literal-bound _ (c .before .before .before .before .before .before .before .before .pre .1 .clean) (ready-seen (c .before .before .before .before .before .before .before .before .pre .1) (c .before .before .before .before .before .look .ensures)) _ (c .before .before .kind .given .1), c .before .before .before .before .before .before .before .before .pre .1 .literal))
 
 factor-emitted-requires : (t : ℕ) → factor-lts.Need-emitted-requires (factor-calls t) (factor-at t) factor.Post
 unfolding moved-to
-factor-emitted-requires t c κs = rw (c .moved .ensures) (code-fits (c .before .before .before .before .before .before .before .before .pre .1))
+factor-emitted-requires t c κs = rw (c .before .before .before .before .moved .ensures) (code-fits (c .before .before .before .before .before .before .before .before .pre .1))
 
 factor-enum-told : (t : ℕ) → factor-lts.Need-enum-told (factor-calls t) (factor-at t) factor.Post
 factor-enum-told t c = search needs
 
-factor-moved-requires-2 : (t : ℕ) → factor-lts.Need-moved-requires-2 (factor-calls t) (factor-at t) factor.Post
-factor-moved-requires-2 t c κs = search needs
-
 factor-used-requires : (t : ℕ) → factor-lts.Need-used-requires (factor-calls t) (factor-at t) factor.Post
 unfolding moved-to
-factor-used-requires t c κs = rw (c .moved2 .ensures) (code-fits (c .before .before .before .before .before .before .before .pre .1), (c .before .before .before .before .before .before .before .pre .1 .declared, c .before .before .before .before .before .before .before .pre .1 .room))
+factor-used-requires t c κs = rw (c .before .before .before .moved .ensures) (code-fits (c .before .before .before .before .before .before .before .pre .1), (c .before .before .before .before .before .before .before .pre .1 .declared, c .before .before .before .before .before .before .before .pre .1 .room))
 
 factor-fixed-of-requires : (t : ℕ) → factor-lts.Need-fixed-of-requires (factor-calls t) (factor-at t) factor.Post
 factor-fixed-of-requires t c κs = search needs
 
 factor-returns : (t : ℕ) → factor-lts.Need-returns (factor-calls t) (factor-at t) factor.Post
 unfolding Reads
-factor-returns t c = let n = neither (c .before .before .before .look .result .kind) (c .before .before .match .keys3) in no-factor (ready-seen (c .before .before .before .before .before .before .pre .1) (c .before .before .before .look .ensures)) _ (n .0) (n .1) (λ z. c .if1 .taken (c .before .fixed-of .ensures ∙ z))
+factor-returns t c = let n = neither (c .before .before .before .before .look .result .kind) (c .before .before .match .keys3) in no-factor (ready-seen (c .before .before .before .before .before .before .before .pre .1) (c .before .before .before .before .look .ensures)) _ (n .0) (n .1) (λ z. c .if1 .taken (c .before .fixed-of .ensures ∙ z))
 
 factor-returns-2 : (t : ℕ) → factor-lts.Need-returns-2 (factor-calls t) (factor-at t) factor.Post
 unfolding Reads
-factor-returns-2 t c = bracket-too-deep (ready-seen (c .before .before .before .before .before .before .before .pre .1) (c .before .before .before .before .look .ensures)) _ (sym (c .before .before .fixed-of .ensures) ∙ c .before .if1 .left) (c .if2 .taken)
-
-factor-moved-requires-3 : (t : ℕ) → factor-lts.Need-moved-requires-3 (factor-calls t) (factor-at t) factor.Post
-factor-moved-requires-3 t c κs = search needs
+factor-returns-2 t c = bracket-too-deep (ready-seen (c .before .before .before .before .before .before .before .before .pre .1) (c .before .before .before .before .before .look .ensures)) _ (sym (c .before .before .fixed-of .ensures) ∙ c .before .if1 .left) (c .if2 .taken)
 
 factor-sub-bracket : (t : ℕ) → factor-lts.Need-sub-bracket (factor-calls t) (factor-at t) factor.Post
 factor-sub-bracket t c = search needs
 
 -- `(` stands next
-factor-open : (t : ℕ) (c : factor-lts.After-bracket-arg (factor-calls t) (factor-at t) factor.Post) → fixed-number (c .before .before .before .before .before .look .result .kind) ≡ 40
+factor-open : (t : ℕ) (c : factor-lts.After-bracket-arg (factor-calls t) (factor-at t) factor.Post) → fixed-number (c .before .before .before .before .before .before .look .result .kind) ≡ 40
 factor-open t c = sym (c .before .before .before .fixed-of .ensures) ∙ c .before .before .if1 .left
 
 factor-bracket-requires : (t : ℕ) → factor-lts.Need-bracket-requires (factor-calls t) (factor-at t) factor.Post
-factor-bracket-requires t c κs = (omega arith, rw (c .moved3 .ensures) (ready-next (c .before .before .before .before .before .before .before .before .before .pre .1) _ (omega arith) (fixed-after (c .before .before .before .before .before .before .before .before .before .pre .1) (ready-seen (c .before .before .before .before .before .before .before .before .before .pre .1) (c .before .before .before .before .before .before .look .ensures)) (factor-open t (c .before)) (omega arith))))
+factor-bracket-requires t c κs = (omega arith, rw (c .before .before .before .before .before .moved .ensures) (ready-next (c .before .before .before .before .before .before .before .before .before .pre .1) _ (omega arith) (fixed-after (c .before .before .before .before .before .before .before .before .before .pre .1) (ready-seen (c .before .before .before .before .before .before .before .before .before .pre .1) (c .before .before .before .before .before .before .look .ensures)) (factor-open t c) (omega arith))))
 
 factor-same-length : (t : ℕ) → factor-lts.Need-same-length (factor-calls t) (factor-at t) factor.Post
 factor-same-length t c = search needs
 
 factor-returns-3 : (t : ℕ) → factor-lts.Need-returns-3 (factor-calls t) (factor-at t) factor.Post
 unfolding Reads moved-to one-more
-factor-returns-3 t c = let p = literal-factor (ready-seen (c .before .before .before .before .before .before .before .before .before .before .pre .1) (c .before .before .before .before .before .before .before .look .ensures)) (c .before .before .before .before .before .before .before .before .before .before .args .allow) _ (c .before .before .before .before .before .kind .given .1) in
-    (S.literal (c .before .before .before .before .before .kind .given .0 .0), rw (c .before .emitted .ensures .0, c .before .before .moved .ensures) p, rw (c .before .emitted .ensures .0, c .before .emitted .ensures .1, toZ-ofZ (factor-cast-emitted t (c .before .before)), c .before .before .moved .ensures) (lays-literal _ _ (p .later) (c .before .before .before .before .before .before .before .before .before .before .pre .1 .declared)))
+factor-returns-3 t c = let p = literal-factor (ready-seen (c .before .before .before .before .before .before .before .before .before .before .pre .1) (c .before .before .before .before .before .before .before .look .ensures)) (c .before .before .before .before .before .before .before .before .before .before .args .allow) _ (c .before .before .before .before .kind .given .1) in
+    (S.literal (c .before .before .before .before .kind .given .0 .0), rw (c .before .emitted .ensures .0, c .before .before .before .before .before .before .moved .ensures) p, rw (c .before .emitted .ensures .0, c .before .emitted .ensures .1, toZ-ofZ (factor-cast-emitted t (c .before .before)), c .before .before .before .before .before .before .moved .ensures) (lays-literal _ _ (p .later) (c .before .before .before .before .before .before .before .before .before .before .pre .1 .declared)))
 
 factor-same-length-2 : (t : ℕ) → factor-lts.Need-same-length-2 (factor-calls t) (factor-at t) factor.Post
 factor-same-length-2 t c = search needs
 
 factor-returns-4 : (t : ℕ) → factor-lts.Need-returns-4 (factor-calls t) (factor-at t) factor.Post
 unfolding Reads moved-to one-more
-factor-returns-4 t c = let p = variable-factor (ready-seen (c .before .before .before .before .before .before .before .before .before .pre .1) (c .before .before .before .before .before .before .look .ensures)) (c .before .before .before .before .before .before .before .before .before .args .allow) (c .before .before .before .before .enum-told .given .1) in
-    (S.variable (name-at (now (c .before .before .before .before .before .before .before .before .before .args .text)) (c .before .before .before .before .before .before .look .result .place)), rw (c .before .used .ensures .0, c .before .before .moved2 .ensures, noted-beside _ _ _ .at) p, rw (c .before .used .ensures .0, c .before .used .ensures .1, c .before .before .moved2 .ensures) (lays-variable _ _ (p .later) (c .before .before .before .before .before .before .before .before .before .pre .1 .declared)))
+factor-returns-4 t c = let p = variable-factor (ready-seen (c .before .before .before .before .before .before .before .before .before .pre .1) (c .before .before .before .before .before .before .look .ensures)) (c .before .before .before .before .before .before .before .before .before .args .allow) (c .before .before .before .enum-told .given .1) in
+    (S.variable (name-at (now (c .before .before .before .before .before .before .before .before .before .args .text)) (c .before .before .before .before .before .before .look .result .place)), rw (c .before .used .ensures .0, c .before .before .before .before .before .moved .ensures, noted-beside _ _ _ .at) p, rw (c .before .used .ensures .0, c .before .used .ensures .1, c .before .before .before .before .before .moved .ensures) (lays-variable _ _ (p .later) (c .before .before .before .before .before .before .before .before .before .pre .1 .declared)))
 
 factor-same-length-3 : (t : ℕ) → factor-lts.Need-same-length-3 (factor-calls t) (factor-at t) factor.Post
 factor-same-length-3 t c = search needs
@@ -341,8 +335,8 @@ factor-same-length-3 t c = search needs
 factor-returns-5 : (t : ℕ) → factor-lts.Need-returns-5 (factor-calls t) (factor-at t) factor.Post
 unfolding moved-to
 factor-returns-5 t c = let s = ready-seen (c .before .before .before .before .before .before .before .before .before .before .before .pre .1) (c .before .before .before .before .before .before .before .before .look .ensures) in
-    let h = factor-open t (c .before .before .before) in
-    handed-on (bracket-leads s _ h (c .before .before .before .before .if2 .left)) (λ x v p. lead _ (omega (arith, fixed-after (c .before .before .before .before .before .before .before .before .before .before .before .pre .1) s h (omega arith) .later)) p) _ (rw (c .before .before .moved3 .ensures) at (c .before .bracket .ensures))
+    let h = factor-open t (c .before .before) in
+    handed-on (bracket-leads s _ h (c .before .before .before .if2 .left)) (λ x v p. lead _ (omega (arith, fixed-after (c .before .before .before .before .before .before .before .before .before .before .before .pre .1) s h (omega arith) .later)) p) _ (rw (c .before .before .before .before .before .before .before .moved .ensures) at (c .before .bracket .ensures))
 
 first-term-look-requires : (t : ℕ) → first-term-lts.Need-look-requires (first-term-calls t) (first-term-at t) first-term.Post
 first-term-look-requires t c κs = search needs
@@ -513,17 +507,15 @@ pub +bracket+expression+factor+first-term+term-spec : {M : Type 1} → statement
     (λ t. factor-lts.spec (factor-calls t) (factor-at t)
     factor.Post
     (factor-look-requires t)
-    (factor-enum-known-kind t)
     (factor-moved-requires t)
+    (factor-enum-known-kind t)
     (factor-cast-emitted t)
     (factor-emitted-requires t)
     (factor-enum-told t)
-    (factor-moved-requires-2 t)
     (factor-used-requires t)
     (factor-fixed-of-requires t)
     (factor-returns t)
     (factor-returns-2 t)
-    (factor-moved-requires-3 t)
     (factor-sub-bracket t)
     (factor-bracket-requires t)
     (factor-same-length t)
