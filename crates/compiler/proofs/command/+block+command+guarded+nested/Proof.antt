@@ -154,7 +154,7 @@ block-fixed-of-requires : (t : ℕ) → block-lts.Need-fixed-of-requires (block-
 block-fixed-of-requires t c κs = search needs
 
 block-close-requires : (t : ℕ) → block-lts.Need-close-requires (block-claims t) (block-at t) block.Post block-Inv-loop block-μ-loop
-block-close-requires t c κs = let b = (block-read t (c .before .before .before .before)) in (b .laid .small .declared, omega (arith, b .laid .small .room, b .laid .kept .count))
+block-close-requires t c κs = let b = (block-read t (c .before .before .before .before)) in (omega (arith, b .laid .small .declared), omega (arith, b .laid .small .declared, b .laid .small .room, b .laid .kept .count))
 
 block-moved-requires : (t : ℕ) → block-lts.Need-moved-requires (block-claims t) (block-at t) block.Post block-Inv-loop block-μ-loop
 block-moved-requires t c κs = search needs
