@@ -1,4 +1,4 @@
--- How the readers of commands go on from what they called: the first lexeme, the condition before a body, the commands of a block. Assumes nothing.
+-- How the readers of commands go on from what they called: the first lexeme, an assignment, the condition before a body, the commands of a block. Assumes nothing.
 use mathlib.Core.Path.{_≡_, refl, sym, _∙_}
 use mathlib.Core.List.{List, [], _∷_}
 use mathlib.Core.Bool.{Bool, true, false}

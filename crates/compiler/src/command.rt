@@ -34,7 +34,7 @@ fn printing(line: bool) -> i32
     if line { 19 } else { 18 }
 }
 
-// After one of these.
+// After PRINTLNS or PRINTS.
 fn print_string(
     text: &[u8],
     names: &[usize],
