@@ -1,12 +1,12 @@
 -- How commands and Programs are read: a law for each way that their readers come to an answer. Assumes nothing.
 use mathlib.Core.Path.{_≡_, refl, _∙_}
 use mathlib.Core.List.{List, [], _∷_}
-use mathlib.Core.Bool.{Bool, true, false, cond}
+use mathlib.Core.Bool.{Bool, true, false}
 use mathlib.Core.Logic.{inl, inr}
-use Prim.Native.Nat.{ℕ, suc, _-_}
+use Prim.Native.Nat.{ℕ, suc, _+_, _≤_, _<_}
+use native.Mathlib.Nat.{add-zero, le-refl}
+use native.Mathlib.Numerals.{add-one}
 use native.Mathlib.Omega.{arith}
-use lib.Dec.{eqb}
-use lib.IntN.{ℤ}
 use types.Run.{OneOf}
 use Rattle.lexeme.specs.Answers.{given, refused}
 use Rattle.lexeme.specs.Coded.{code-of}
@@ -15,14 +15,13 @@ use Rattle.lexeme.specs.declared.Kind.the-variants as kind
 use Rattle.lexeme.specs.declared.Lexeme as code
 use Rattle.sentence.specs.Sentences.{Sen, condition, command, commands, print, print-line, print-string, declare, input, assign, error, while, when, block, single, then}
 use Rattle.sentence.specs.Reader.{Around, depth, in-print, in-assign, in-while, in-when, in-while-body, in-when-body, in-block, in-block-after, in-program, State, want-DO, want-expression, want-condition, want-command, want-declared, want-read, want-becomes, got-command, nowhere, is, on, on-name, on-string, at-command, at-command-or-brace, after-command, after-condition, whole-expression, step, verdict, goes-on, read}
-use Rattle.compiler.specs.declared.walk.Walk.{Walk}
-use Rattle.compiler.specs.declared.walk.Read.{Read}
 use Rattle.compiler.specs.Lexing.{Lexes}
 use Rattle.compiler.specs.Scopes.{name-at}
-use Rattle.compiler.specs.Steps.{fixed-number}
-use Rattle.compiler.specs.Walks.{Reads, Reads-nested, Reads-when, Reads-while, Reads-block, want-quoted}
+use Rattle.compiler.specs.Steps.{fixed-number, before-body}
+use Rattle.compiler.specs.Walks.{want-quoted, want-guarded, want-nested}
+use Rattle.compiler.proofs.Lays.{quoted, guarded}
 use Rattle.compiler.proofs.Looked.{Seen, quoted-at, seen-name, seen-string, seen-fixed, no-fixed, no-name, no-string}
-use Rattle.compiler.proofs.Reading.{from-via, ended, Comes, Stuck, comes-on, comes-stuck, comes-within, stuck-within, alike, onward, none, too-deep, Way, Passed, Barred, comes, passes, stuck, refuses, Leads, leads, begins, refuses-within, Met, Missed}
+use Rattle.compiler.proofs.Reading.{from-via, ended, Comes, Stuck, comes-on, comes-stuck, comes-within, stuck-within, alike, onward, none, too-deep, Way, Passed, Barred, comes, passes, stuck, refuses, Leads, leads, begins, refuses-within, Met, Missed, stays, crosses}
 use Rattle.compiler.proofs.Passes.{expression-way, condition-way}
 
 -- ---- the ways of the readers
@@ -49,18 +48,11 @@ read-way = command-from want-read
 abbrev pub assign-way : Name → Way command (Sen Name command)
 assign-way x = command-from (want-becomes x)
 
-abbrev pub when-way : Way command (Sen Name command)
-when-way = command-from (λ a. want-condition (in-when a))
-
-abbrev pub while-way : Way command (Sen Name command)
-while-way = command-from (λ a. want-condition (in-while a))
+abbrev pub guarded-way : Bool → Way command (Sen Name command)
+guarded-way again = command-from (want-guarded again)
 
 abbrev pub block-way : Way command (Sen Name command)
 block-way = command-from (λ a. want-command (in-block a))
-
--- after IF, WHILE or `{`, by its number
-abbrev pub nested-way : ℕ → Way command (Sen Name command)
-nested-way f = command-from (cond (eqb f 6) (λ a. want-condition (in-when a)) (cond (eqb f 21) (λ a. want-condition (in-while a)) (λ a. want-command (in-block a))))
 
 abbrev pub block-so-far : Way command (Sen Name commands)
 block-so-far = record { start = λ a. want-command (in-block a); stop = at-command-or-brace }
@@ -81,13 +73,10 @@ module _ {text : List ℕ} {at : ℕ} {r : code.Lexeme} (s : Seen text at r) (al
   no-command-from : (start : Around command → State) → ((a : Around command) → step (start a) (s .what) ≡ nowhere) → Barred (command-from start) text at allow 4 (r .place)
   no-command-from start e = refuses text at allow start 4 (r .place) (none s (λ a. step (start a)) e)
 
-  pub line-printed : r .kind ≡ kind.Str → Passed (string-way true) text at (r .end) allow (print-line (quoted-at text (r .place)))
-  unfolding is step want-quoted on-string
-  line-printed h = let e = seen-string s h in ends-command (want-quoted true) (print-line (quoted-at text (r .place))) (rw e) (λ a. rw e)
-
-  pub string-printed : r .kind ≡ kind.Str → Passed (string-way false) text at (r .end) allow (print-string (quoted-at text (r .place)))
-  unfolding is step want-quoted on-string
-  string-printed h = let e = seen-string s h in ends-command (want-quoted false) (print-string (quoted-at text (r .place))) (rw e) (λ a. rw e)
+  pub quoted-printed : (line : Bool) → r .kind ≡ kind.Str → Passed (string-way line) text at (r .end) allow (quoted line (quoted-at text (r .place)))
+  unfolding is step want-quoted on-string quoted
+  quoted-printed true h = let e = seen-string s h in ends-command (want-quoted true) (print-line (quoted-at text (r .place))) (rw e) (λ a. rw e)
+  quoted-printed false h = let e = seen-string s h in ends-command (want-quoted false) (print-string (quoted-at text (r .place))) (rw e) (λ a. rw e)
 
   pub no-quoted : (line : Bool) → (r .kind ≡ kind.Str → ⊥) → Barred (string-way line) text at allow 4 (r .place)
   unfolding step want-quoted
@@ -113,14 +102,7 @@ module _ {text : List ℕ} {at : ℕ} {r : code.Lexeme} (s : Seen text at r) (al
 module _ {text : List ℕ} {at : ℕ} (allow : ℕ) (x : Name) where
   pub assign-leads : {e : ℕ} → Met text at 58 e → Leads text at e allow (assign-way x) allow expression-way (assign x)
   unfolding depth step on is code-of verdict whole-expression
-  assign-leads met =
-      let s = met .seen in
-      let e = seen-fixed s becomes (met .number) in
-      let g : is end (s .what) ≡ false = rw e in
-      rw (met .ends)
-      (leads (in-assign x) (omega (arith, s .later g)) (λ a. refl)
-      (onward s (λ a. step (want-becomes x a)) g (λ a. want-expression (in-assign x a)) (λ a. rw e) (λ a. omega arith))
-      (λ d. refl))
+  assign-leads met = rw (met .ends) (crosses (met .seen) (in-assign x) (le-refl at) stays (seen-fixed (met .seen) becomes (met .number)) refl (λ a. refl) (λ a. refl) (λ a. omega arith) (λ d. refl))
 
   pub no-becomes : {n p : ℕ} → Missed text at 58 n p → Barred (assign-way x) text at allow n p
   unfolding step on code-of
@@ -142,50 +124,35 @@ module _ {text : List ℕ} {at m : ℕ} (allow : ℕ) (c : Sen Name condition) (
       → Leads text at e (suc allow) (command-from (λ a. want-condition (inner a))) allow command-way makes
   unfolding verdict
   body-leads inner body makes w d d′ to stops on-it met =
-      let s = met .seen in
-      let e = seen-fixed s w (met .number) in
-      let g : is end (s .what) ≡ false = rw e on-it in
       rw (met .ends)
-      (leads body (omega (arith, p .later, s .later g)) (λ a. rw (d′ a) (omega arith))
-      (comes-on (comes-within inner (λ a. rw (d a) (omega arith)) (comes p))
-      (onward s (λ a. after-condition c (inner a)) g (λ a. want-command (body a)) (λ a. rw e (to a)) (λ a. rw (d′ a) (omega arith))))
-      stops)
+      (crosses (met .seen) body (omega (arith, p .later)) (comes-within inner (λ a. rw (d a) (omega arith)) (comes p)) (seen-fixed (met .seen) w (met .number)) on-it (λ a. rw (d′ a) (omega arith)) to (λ a. rw (d′ a) (omega arith)) stops)
 
-  no-body : (inner : Around command → Around condition) (w : Fixed)
+  unled : (inner : Around command → Around condition) (w : Fixed)
       → ((a : Around command) → depth (inner a) ≡ suc (depth a))
       → ((a : Around command) (l : Lexeme) → is w l ≡ false → after-condition c (inner a) l ≡ nowhere)
       → {n q : ℕ} → Missed text m (code-of w) n q
       → Barred (command-from (λ a. want-condition (inner a))) text at (suc allow) n q
-  no-body inner w d to miss =
+  unled inner w d to miss =
       rw (miss .refused-4, miss .there)
       (refuses text at (suc allow) (λ a. want-condition (inner a)) 4 (miss .lexeme .place)
       (comes-stuck (comes-within inner (λ a. rw (d a) (omega arith)) (comes p))
       (none (miss .seen) (λ a. after-condition c (inner a)) (λ a. to a (miss .seen .what) (no-fixed (miss .seen) w (miss .number))))))
 
-  pub when-leads : {e : ℕ} → Met text m 19 e → Leads text at e (suc allow) when-way allow command-way (when c)
-  unfolding depth after-condition after-command on is code-of
-  when-leads = body-leads in-when (in-when-body c) (when c) THEN (λ a. refl) (λ a. refl) (λ a. refl) (λ b. refl) refl
+  pub guarded-leads : (again : Bool) {e : ℕ} → Met text m (code-of (before-body again)) e → Leads text at e (suc allow) (guarded-way again) allow command-way (guarded again c)
+  unfolding depth after-condition after-command on is code-of want-guarded before-body guarded
+  guarded-leads true = body-leads in-while (in-while-body c) (while c) DO (λ a. refl) (λ a. refl) (λ a. refl) (λ b. refl) refl
+  guarded-leads false = body-leads in-when (in-when-body c) (when c) THEN (λ a. refl) (λ a. refl) (λ a. refl) (λ b. refl) refl
 
-  pub no-then : {n q : ℕ} → Missed text m 19 n q → Barred when-way text at (suc allow) n q
-  unfolding depth after-condition on code-of
-  no-then = no-body in-when THEN (λ a. refl) (λ a l h. rw h)
-
-  pub while-leads : {e : ℕ} → Met text m 3 e → Leads text at e (suc allow) while-way allow command-way (while c)
-  unfolding depth after-condition after-command on is code-of
-  while-leads = body-leads in-while (in-while-body c) (while c) DO (λ a. refl) (λ a. refl) (λ a. refl) (λ b. refl) refl
-
-  pub no-do : {n q : ℕ} → Missed text m 3 n q → Barred while-way text at (suc allow) n q
-  unfolding depth after-condition on code-of
-  no-do = no-body in-while DO (λ a. refl) (λ a l h. rw h)
+  pub no-body : (again : Bool) {n q : ℕ} → Missed text m (code-of (before-body again)) n q → Barred (guarded-way again) text at (suc allow) n q
+  unfolding depth after-condition on want-guarded before-body
+  no-body true = unled in-while DO (λ a. refl) (λ a l h. rw h)
+  no-body false = unled in-when THEN (λ a. refl) (λ a l h. rw h)
 
 module _ (text : List ℕ) (at allow : ℕ) where
-  pub when-refused : (n p : ℕ) → Barred condition-way text at allow n p → Barred when-way text at (suc allow) n p
-  unfolding depth
-  when-refused n p q = refuses-within text at (suc allow) allow want-condition n p in-when (λ a. omega arith) q
-
-  pub while-refused : (n p : ℕ) → Barred condition-way text at allow n p → Barred while-way text at (suc allow) n p
-  unfolding depth
-  while-refused n p q = refuses-within text at (suc allow) allow want-condition n p in-while (λ a. omega arith) q
+  pub guarded-refused : (again : Bool) (n p : ℕ) → Barred condition-way text at allow n p → Barred (guarded-way again) text at (suc allow) n p
+  unfolding depth want-guarded
+  guarded-refused true n p q = refuses-within text at (suc allow) allow want-condition n p in-while (λ a. omega arith) q
+  guarded-refused false n p q = refuses-within text at (suc allow) allow want-condition n p in-when (λ a. omega arith) q
 
   pub block-first : Leads text at at (suc allow) block-so-far allow command-way single
   unfolding depth after-command
@@ -207,113 +174,67 @@ module _ {text : List ℕ} {at m : ℕ} {r : code.Lexeme} (allow : ℕ) (ms : Se
       passes (omega (arith, p .later, s .later g)) (s .inside g)
       (comes-on (comes p) (onward s (at-command-or-brace ms) g (got-command (block ms)) (λ a. rw e) (λ a. omega arith)))
 
--- what `nested` promises, as one way of reading
-pub reads-nested : (f : ℕ) (text names : List ℕ) (table : List ℤ) (w : Walk) (allow : ℕ) (r : Read) (names′ : List ℕ) (table′ : List ℤ)
-    → Reads-nested f text names table w allow r names′ table′
-    → Reads command (nested-way f .start) after-command text names table w (suc allow) r names′ table′
-unfolding Reads-nested
-reads-nested f text names table w allow r names′ table′ h = by-test (eqb f 6) (eqb f 21) h
-  where
-    by-test : (b c : Bool) → cond b Reads-when (cond c Reads-while Reads-block) text names table w allow r names′ table′
-        → Reads command (cond b (λ a. want-condition (in-when a)) (cond c (λ a. want-condition (in-while a)) (λ a. want-command (in-block a)))) after-command text names table w (suc allow) r names′ table′
-    by-test true c h = h
-    by-test false true h = h
-    by-test false false h = h
-
 -- ---- a command by its first lexeme
 
-module _ {text : List ℕ} {at : ℕ} {r : code.Lexeme} (s : Seen text at r) (allow : ℕ) where
-  pub error-read : fixed-number (r .kind) ≡ 4 → Passed command-way text at (r .end) allow error
+module _ {text : List ℕ} {at : ℕ} {r : code.Lexeme} (s : Seen text at r) where
+  pub error-read : (allow : ℕ) → fixed-number (r .kind) ≡ 4 → Passed command-way text at (r .end) allow error
   unfolding is step at-command on on-name code-of
-  error-read h = let e = seen-fixed s ERROR h in ends-command s allow want-command error (rw e) (λ a. rw e)
+  error-read allow h = let e = seen-fixed s ERROR h in ends-command s allow want-command error (rw e) (λ a. rw e)
 
-  -- the first lexeme leads on, and opens no nesting
-  first-leads : (start : Around command → State) → is end (s .what) ≡ false → ((a : Around command) → at-command a (s .what) ≡ start a) → ((a : Around command) → verdict (start a) ≡ goes-on (depth a)) → Leads text at (r .end) allow command-way allow (command-from start) (λ m. m)
-  unfolding step
-  first-leads start g e d =
-      leads (λ a. a) (omega (arith, s .later g)) (λ a. refl)
-      (onward s (λ a. step (want-command a)) g start e (λ a. rw (d a) (omega arith)))
-      (λ m. refl)
+  -- the lexeme begins a command, and opens so many nestings: what is wanted after it
+  pub record Begins (deeper : ℕ) (start : Around command → State) : Type 0 where
+    pub going : is end (s .what) ≡ false
+    pub to : (a : Around command) → at-command a (s .what) ≡ start a
+    pub deep : (a : Around command) → verdict (start a) ≡ goes-on (depth a + deeper)
 
-  pub assign-begins : r .kind ≡ kind.Name → Leads text at (r .end) allow command-way allow (assign-way (name-at text (r .place))) (λ m. m)
+  begins-fixed : (w : Fixed) (deeper : ℕ) (start : Around command → State) → fixed-number (r .kind) ≡ code-of w → is end (fixed w) ≡ false → ((a : Around command) → at-command a (fixed w) ≡ start a) → ((a : Around command) → verdict (start a) ≡ goes-on (depth a + deeper)) → Begins deeper start
+  begins-fixed w deeper start h g t d = let e = seen-fixed s w h in record { going = rw e g; to = λ a. rw e (t a); deep = d }
+
+  pub begins-assign : r .kind ≡ kind.Name → Begins 0 (want-becomes (name-at text (r .place)))
   unfolding is at-command on on-name verdict
-  assign-begins h = let e = seen-name s h in first-leads (want-becomes (name-at text (r .place))) (rw e) (λ a. rw e) (λ a. refl)
+  begins-assign h = let e = seen-name s h in record { going = rw e; to = λ a. rw e; deep = λ a. rw add-zero }
 
-  pub declare-begins : fixed-number (r .kind) ≡ 8 → Leads text at (r .end) allow command-way allow declare-way (λ m. m)
-  unfolding is at-command on code-of verdict
-  declare-begins h = let e = seen-fixed s INT h in first-leads want-declared (rw e) (λ a. rw e) (λ a. refl)
+  pub begins-declare : fixed-number (r .kind) ≡ 8 → Begins 0 want-declared
+  unfolding is at-command on on-name code-of verdict
+  begins-declare h = begins-fixed INT 0 want-declared h refl (λ a. refl) (λ a. rw add-zero)
 
-  pub print-begins : fixed-number (r .kind) ≡ 12 → Leads text at (r .end) allow command-way allow print-way (λ m. m)
-  unfolding is at-command on code-of verdict depth
-  print-begins h = let e = seen-fixed s PRINTI h in first-leads (λ a. want-expression (in-print a)) (rw e) (λ a. rw e) (λ a. refl)
-
-  pub line-begins : fixed-number (r .kind) ≡ 13 → Leads text at (r .end) allow command-way allow (string-way true) (λ m. m)
-  unfolding is at-command on code-of verdict want-quoted
-  line-begins h = let e = seen-fixed s PRINTLNS h in first-leads (want-quoted true) (rw e) (λ a. rw e) (λ a. refl)
-
-  pub string-begins : fixed-number (r .kind) ≡ 14 → Leads text at (r .end) allow command-way allow (string-way false) (λ m. m)
-  unfolding is at-command on code-of verdict want-quoted
-  string-begins h = let e = seen-fixed s PRINTS h in first-leads (want-quoted false) (rw e) (λ a. rw e) (λ a. refl)
-
-  pub read-begins : fixed-number (r .kind) ≡ 16 → Leads text at (r .end) allow command-way allow read-way (λ m. m)
-  unfolding is at-command on code-of verdict
-  read-begins h = let e = seen-fixed s READ h in first-leads want-read (rw e) (λ a. rw e) (λ a. refl)
-
-  -- the first lexeme opens a nesting
-  record Opens (start : Around command → State) : Type 0 where
-    going : is end (s .what) ≡ false
-    to : (a : Around command) → at-command a (s .what) ≡ start a
-    deeper : (a : Around command) → verdict (start a) ≡ goes-on (suc (depth a))
-
-  opens-leads : (start : Around command → State) → Opens start → (allow ≡ 0 → ⊥) → Leads text at (r .end) allow command-way (suc (allow - 1)) (command-from start) (λ m. m)
-  unfolding step
-  opens-leads start o z =
-      leads (λ a. a) (omega (arith, s .later (o .going))) (λ a. omega arith)
-      (onward s (λ a. step (want-command a)) (o .going) start (o .to) (λ a. rw (o .deeper a) (omega arith)))
-      (λ m. refl)
-
-  opens-too-deep : (start : Around command → State) → Opens start → allow ≡ 0 → Barred command-way text at allow 5 (r .place)
-  unfolding step
-  opens-too-deep start o z = refuses text at allow want-command 5 (r .place) (too-deep s (λ a. step (want-command a)) start (o .to) (λ a. rw (o .deeper a) (omega arith)))
-
-  opens-when : fixed-number (r .kind) ≡ 6 → Opens (λ a. want-condition (in-when a))
+  pub begins-print : fixed-number (r .kind) ≡ 12 → Begins 0 (λ a. want-expression (in-print a))
   unfolding is at-command on on-name code-of verdict depth
-  opens-when h = let e = seen-fixed s IF h in record { going = rw e; to = λ a. rw e; deeper = λ a. refl }
+  begins-print h = begins-fixed PRINTI 0 (λ a. want-expression (in-print a)) h refl (λ a. refl) (λ a. rw add-zero)
 
-  opens-while : fixed-number (r .kind) ≡ 21 → Opens (λ a. want-condition (in-while a))
-  unfolding is at-command on on-name code-of verdict depth
-  opens-while h = let e = seen-fixed s WHILE h in record { going = rw e; to = λ a. rw e; deeper = λ a. refl }
+  pub begins-line : fixed-number (r .kind) ≡ 13 → Begins 0 (want-quoted true)
+  unfolding is at-command on on-name code-of verdict want-quoted
+  begins-line h = begins-fixed PRINTLNS 0 (want-quoted true) h refl (λ a. refl) (λ a. rw add-zero)
 
-  opens-block : fixed-number (r .kind) ≡ 123 → Opens (λ a. want-command (in-block a))
-  unfolding is at-command on on-name code-of verdict depth
-  opens-block h = let e = seen-fixed s open-brace h in record { going = rw e; to = λ a. rw e; deeper = λ a. refl }
+  pub begins-string : fixed-number (r .kind) ≡ 14 → Begins 0 (want-quoted false)
+  unfolding is at-command on on-name code-of verdict want-quoted
+  begins-string h = begins-fixed PRINTS 0 (want-quoted false) h refl (λ a. refl) (λ a. rw add-zero)
 
-  pub when-begins : fixed-number (r .kind) ≡ 6 → (allow ≡ 0 → ⊥) → Leads text at (r .end) allow command-way (suc (allow - 1)) when-way (λ m. m)
-  when-begins h = opens-leads _ (opens-when h)
+  pub begins-read : fixed-number (r .kind) ≡ 16 → Begins 0 want-read
+  unfolding is at-command on on-name code-of verdict
+  begins-read h = begins-fixed READ 0 want-read h refl (λ a. refl) (λ a. rw add-zero)
 
-  pub while-begins : fixed-number (r .kind) ≡ 21 → (allow ≡ 0 → ⊥) → Leads text at (r .end) allow command-way (suc (allow - 1)) while-way (λ m. m)
-  while-begins h = opens-leads _ (opens-while h)
+  pub begins-nested : OneOf (6 ∷ 21 ∷ 123 ∷ []) (fixed-number (r .kind)) → Begins 1 (want-nested (fixed-number (r .kind)))
+  unfolding is at-command on on-name code-of verdict depth want-guarded want-nested
+  begins-nested (inl h) = rw h (begins-fixed IF 1 (want-guarded false) h refl (λ a. refl) (λ a. rw add-one))
+  begins-nested (inr (inl h)) = rw h (begins-fixed WHILE 1 (want-guarded true) h refl (λ a. refl) (λ a. rw add-one))
+  begins-nested (inr (inr h)) = rw h (begins-fixed open-brace 1 (λ a. want-command (in-block a)) h refl (λ a. refl) (λ a. rw add-one))
 
-  pub block-begins : fixed-number (r .kind) ≡ 123 → (allow ≡ 0 → ⊥) → Leads text at (r .end) allow command-way (suc (allow - 1)) block-way (λ m. m)
-  block-begins h = opens-leads _ (opens-block h)
+  module _ {deeper : ℕ} {start : Around command → State} (b : Begins deeper start) where
+    pub begun-leads : {allow allow′ : ℕ} → deeper ≤ allow → allow′ ≡ allow → Leads text at (r .end) allow command-way allow′ (command-from start) (λ m. m)
+    unfolding step
+    begun-leads d e = crosses s (λ a. a) (le-refl at) stays refl (b .going) (λ a. omega arith) (b .to) (λ a. rw (b .deep a) (omega arith)) (λ m. refl)
 
-  -- each of the three, by its number
-  pub nested-begins : OneOf (6 ∷ 21 ∷ 123 ∷ []) (fixed-number (r .kind)) → (allow ≡ 0 → ⊥) → Leads text at (r .end) allow command-way (suc (allow - 1)) (nested-way (fixed-number (r .kind))) (λ m. m)
-  nested-begins (inl h) z = rw h (when-begins h z)
-  nested-begins (inr (inl h)) z = rw h (while-begins h z)
-  nested-begins (inr (inr h)) z = rw h (block-begins h z)
+    pub too-deep-begun : {allow : ℕ} → allow < deeper → Barred command-way text at allow 5 (r .place)
+    unfolding step
+    too-deep-begun {allow} d = refuses text at allow want-command 5 (r .place) (too-deep s (λ a. step (want-command a)) start (b .to) (λ a. rw (b .deep a) (omega arith)))
 
-  pub nested-too-deep : OneOf (6 ∷ 21 ∷ 123 ∷ []) (fixed-number (r .kind)) → allow ≡ 0 → Barred command-way text at allow 5 (r .place)
-  nested-too-deep (inl h) = opens-too-deep _ (opens-when h)
-  nested-too-deep (inr (inl h)) = opens-too-deep _ (opens-while h)
-  nested-too-deep (inr (inr h)) = opens-too-deep _ (opens-block h)
-
-  pub no-command : (r .kind ≡ kind.Name → ⊥)
+  pub no-command : (allow : ℕ) → (r .kind ≡ kind.Name → ⊥)
       → (fixed-number (r .kind) ≡ 4 → ⊥) → (fixed-number (r .kind) ≡ 8 → ⊥) → (fixed-number (r .kind) ≡ 12 → ⊥) → (fixed-number (r .kind) ≡ 13 → ⊥) → (fixed-number (r .kind) ≡ 14 → ⊥) → (fixed-number (r .kind) ≡ 16 → ⊥)
       → (OneOf (6 ∷ 21 ∷ 123 ∷ []) (fixed-number (r .kind)) → ⊥)
       → Barred command-way text at allow 4 (r .place)
   unfolding step at-command on code-of
-  no-command n e i p l t g o =
+  no-command allow n e i p l t g o =
       no-command-from s allow want-command
       (λ a. rw (no-fixed s PRINTI p, no-fixed s PRINTLNS l, no-fixed s PRINTS t, no-fixed s INT i, no-fixed s READ g, no-name s n, no-fixed s ERROR e, no-fixed s WHILE (λ h. o (inr (inl h))), no-fixed s IF (λ h. o (inl h)), no-fixed s open-brace (λ h. o (inr (inr h)))))
 

@@ -27,12 +27,12 @@ use Rattle.compiler.specs.declared.walk.Walk.{Walk}
 use Rattle.compiler.specs.declared.scope.Cell.{Cell}
 use Rattle.compiler.specs.declared.scope.Cell.the-variants.{At, Nowhere}
 use Rattle.compiler.specs.Scopes.{word-at, name-at, entered, declarations, stand}
-use Rattle.compiler.specs.Steps.{moved-to, one-more, needing, faulted-walk, operation-number, found, noted-walk, cell-number, declared-walk, declared-names}
+use Rattle.compiler.specs.Steps.{moved-to, one-more, needing, printing-number, ended-walk, ended-table, faulted-walk, operation-number, found, noted-walk, cell-number, declared-walk, declared-names}
 use Rattle.compiler.specs.Tables.{put, emit}
 use Rattle.compiler.specs.Walks.{named, scope-of, Laid, spare, Small, Kept, Lays, Ready}
 use Rattle.compiler.specs.Lexing.{Clean}
 use Rattle.compiler.proofs.Refusals.{Only, no-refusal, by-number, only-number, only-test, only-pass}
-use Rattle.compiler.proofs.Emits.{put-put, emit-code, emit-one, put-before, mul-operation, sign-operation, rel-operation}
+use Rattle.compiler.proofs.Emits.{emit-code, emit-one, put-before, mul-operation, sign-operation, rel-operation}
 
 -- ---- answers
 
@@ -320,6 +320,11 @@ module _ {l : Kind} {table : List ℤ} {w v : Walk} where
   unfolding emit
   laid-pair z i j a d s c = record { code = rw s a; need = d; numbers = rw (c, add-one) }
 
+-- PRINTLNS, which prints a line, or PRINTS
+unfoldable pub quoted : {A : Type 0} → Bool → Quoted → Sen A command
+quoted true q = print-line q
+quoted false q = print-string q
+
 module _ {text names : List ℕ} {table : List ℤ} {w : Walk} where
   pub lays-variable : (place e : ℕ) → w .at < e → w .declared ≤ length names →
       Lays text names table w (variable (name-at text place)) names (put table (w .code) (pos 3 ∷ pos (cell-number (its-cell text names w place)) ∷ [])) (one-more (noted-walk (its-cell text names w place) (moved-to w e) place) 1)
@@ -352,13 +357,10 @@ module _ {text names : List ℕ} {table : List ℤ} {w : Walk} where
   unfolding moved-to one-more stand resolve size need code pair spare
   lays-error e h d = lays (leads-give error (stand text names w) (laid-one error (halt 1) e 0 refl refl refl)) (omega arith) (kept-all (w .declared) names)
 
-  pub lays-print-line : (q : Quoted) (place e : ℕ) → q .place ≡ place + 1 → w .at < e → w .declared ≤ length names → Lays text names table w (print-line q) names (put table (w .code) (pos 19 ∷ pos (place + 1) ∷ [])) (one-more (moved-to w e) 0)
-  unfolding moved-to one-more stand resolve size need code pair spare
-  lays-print-line q place e p h d = rw (← p) (lays (leads-give (print-line q) (stand text names w) (laid-one (print-line q) (print-str-ln (q .place)) e 0 refl refl refl)) (omega arith) (kept-all (w .declared) names))
-
-  pub lays-print-string : (q : Quoted) (place e : ℕ) → q .place ≡ place + 1 → w .at < e → w .declared ≤ length names → Lays text names table w (print-string q) names (put table (w .code) (pos 18 ∷ pos (place + 1) ∷ [])) (one-more (moved-to w e) 0)
-  unfolding moved-to one-more stand resolve size need code pair spare
-  lays-print-string q place e p h d = rw (← p) (lays (leads-give (print-string q) (stand text names w) (laid-one (print-string q) (print-str (q .place)) e 0 refl refl refl)) (omega arith) (kept-all (w .declared) names))
+  pub lays-quoted : (line : Bool) (q : Quoted) (place e : ℕ) → q .place ≡ place + 1 → w .at < e → w .declared ≤ length names → Lays text names table w (quoted line q) names (put table (w .code) (printing-number line ∷ pos (place + 1) ∷ [])) (one-more (moved-to w e) 0)
+  unfolding moved-to one-more stand resolve size need code pair spare quoted printing-number
+  lays-quoted true q place e p h d = rw (← p) (lays (leads-give (print-line q) (stand text names w) (laid-one (print-line q) (print-str-ln (q .place)) e 0 refl refl refl)) (omega arith) (kept-all (w .declared) names))
+  lays-quoted false q place e p h d = rw (← p) (lays (leads-give (print-string q) (stand text names w) (laid-one (print-string q) (print-str (q .place)) e 0 refl refl refl)) (omega arith) (kept-all (w .declared) names))
 
 -- ---- declarations
 
@@ -422,25 +424,26 @@ module _ {text names : List ℕ} {table : List ℤ} {w : Walk} where
 
 -- ---- bodies
 
-module _ {table table₁ table₂ : List ℤ} {w c v : Walk} {x : Sen ℕ condition} {y : Sen ℕ command} (e : ℕ) (p : Laid table table₁ w c x) (q : Laid table₁ table₂ (one-more (moved-to c e) 0) v y) where
-  laid-when : Laid table (put table₂ (c .code) (pos 6 ∷ pos (v .code) ∷ [])) w (needing v (max (c .need) (v .need))) (when x y)
-  unfolding moved-to one-more needing size need code pair
-  laid-when = record {
-    code = omega (arith, p .code, q .code);
-    need = ap₂ max (p .need) (q .need);
-    numbers = sym (emit-code table (w .code) x (jump-if-false (w .code + size x + 1 + size y) ∷ code (w .code + size x + 1) y)
-        ∙ rw (← p .code, ← p .numbers, ← q .code) (sym (put-before table₁ (c .code) (jump-if-false (v .code)) (code (c .code + 1) y)) ∙ rw (← q .numbers) refl));
-  }
+-- WHILE, whose body is done again, or IF
+unfoldable pub guarded : {A : Type 0} → Bool → Sen A condition → Sen A command → Sen A command
+guarded true x y = while x y
+guarded false x y = when x y
 
-  laid-while : Laid table (put (put table₂ (c .code) (pos 6 ∷ pos (v .code + 1) ∷ [])) (v .code) (pos 5 ∷ pos (w .code) ∷ [])) w (one-more v (max (c .need) (v .need))) (while x y)
-  unfolding moved-to one-more size need code pair
-  laid-while = record {
-    code = omega (arith, p .code, q .code);
-    need = ap₂ max (p .need) (q .need);
-    numbers = sym (emit-code table (w .code) x (jump-if-false (w .code + size x + 1 + size y + 1) ∷ (code (w .code + size x + 1) y ++ jump (w .code) ∷ []))
-        ∙ rw (← p .code, ← p .numbers, ← q .code) (sym (put-before table₁ (c .code) (jump-if-false (v .code + 1)) (code (c .code + 1) y ++ jump (w .code) ∷ []))
-        ∙ rw (emit-code table₁ (c .code + 1) y (jump (w .code) ∷ []), ← q .code, ← q .numbers, emit-one) (sym (put-put table₂ (pos 6 ∷ pos (v .code + 1) ∷ []) (pos 5 ∷ pos (w .code) ∷ []) (c .code) (v .code) (le-refl 2) (omega (arith, q .code))))));
-  }
+-- the condition's code, and its jump over the rest to the walk's end
+laid-over : {table table₁ table₂ : List ℤ} {w c v : Walk} {x : Sen ℕ condition} (z : Sen ℕ command) (is : List Instruction) → code (w .code) z ≡ code (w .code) x ++ jump-if-false (v .code) ∷ is →
+    v .code ≡ w .code + size z → v .need ≡ need z → Laid table table₁ w c x → table₂ ≡ emit table₁ (c .code + 1) is → Laid table (put table₂ (c .code) (pos 6 ∷ pos (v .code) ∷ [])) w v z
+unfolding pair
+laid-over {table} {table₁} {w} {c} {v} {x} z is e s n p t = record {
+  code = s;
+  need = n;
+  numbers = rw (t, e, emit-code table (w .code) x (jump-if-false (v .code) ∷ is), ← p .code, ← p .numbers) (put-before table₁ (c .code) (jump-if-false (v .code)) is);
+}
+
+module _ {table table₁ table₂ : List ℤ} {w c v : Walk} {x : Sen ℕ condition} {y : Sen ℕ command} (e : ℕ) (p : Laid table table₁ w c x) (q : Laid table₁ table₂ (one-more (moved-to c e) 0) v y) where
+  laid-guarded : (again : Bool) → let u = ended-walk again v (max (c .need) (v .need)) in Laid table (put (ended-table again table₂ (v .code) (w .code)) (c .code) (pos 6 ∷ pos (u .code) ∷ [])) w u (guarded again x y)
+  unfolding moved-to one-more needing size need code pair ended-walk ended-table guarded
+  laid-guarded true = laid-over (while x y) (code (c .code + 1) y ++ jump (w .code) ∷ []) (rw (q .code, p .code) refl) (omega (arith, p .code, q .code)) (ap₂ max (p .need) (q .need)) p (sym (emit-code table₁ (c .code + 1) y (jump (w .code) ∷ []) ∙ rw (← q .code, ← q .numbers) (emit-one table₂ (v .code) (jump (w .code)))))
+  laid-guarded false = laid-over (when x y) (code (c .code + 1) y) (rw (q .code, p .code) refl) (omega (arith, p .code, q .code)) (ap₂ max (p .need) (q .need)) p (q .numbers)
 
 laid-then : {table table₁ table₂ : List ℤ} {w u v : Walk} {x : Sen ℕ commands} {y : Sen ℕ command} → Laid table table₁ w u x → Laid table₁ table₂ u v y → Laid table table₂ w (needing v (max (u .need) (v .need))) (then x y)
 unfolding needing size need code
@@ -451,15 +454,11 @@ laid-then {table} {table₁} {w} {u} {x} {y} p q = record {
 }
 
 module _ {text names names₁ names₂ : List ℕ} {table table₁ table₂ : List ℤ} {w c v : Walk} {y : Sen Name command} where
-  pub lays-when : {x : Sen Name condition} (e : ℕ) → c .at < e → Lays text names table w x names₁ table₁ c → Lays text names₁ table₁ (one-more (moved-to c e) 0) y names₂ table₂ v →
-      Lays text names table w (when x y) names₂ (put table₂ (c .code) (pos 6 ∷ pos (v .code) ∷ [])) (needing v (max (c .need) (v .need)))
-  unfolding moved-to one-more needing stand resolve spare
-  lays-when e h p q = lays-two when refl p q refl refl (λ a b. laid-when {x = a} {y = b} e) (omega (arith, p .small, q .small)) (p .small .declared)
-
-  pub lays-while : {x : Sen Name condition} (e : ℕ) → c .at < e → Lays text names table w x names₁ table₁ c → Lays text names₁ table₁ (one-more (moved-to c e) 0) y names₂ table₂ v →
-      Lays text names table w (while x y) names₂ (put (put table₂ (c .code) (pos 6 ∷ pos (v .code + 1) ∷ [])) (v .code) (pos 5 ∷ pos (w .code) ∷ [])) (one-more v (max (c .need) (v .need)))
-  unfolding moved-to one-more stand resolve spare
-  lays-while e h p q = lays-two while refl p q refl refl (λ a b. laid-while {x = a} {y = b} e) (omega (arith, p .small, q .small)) (p .small .declared)
+  pub lays-guarded : (again : Bool) {x : Sen Name condition} (e : ℕ) → c .at < e → Lays text names table w x names₁ table₁ c → Lays text names₁ table₁ (one-more (moved-to c e) 0) y names₂ table₂ v →
+      let u = ended-walk again v (max (c .need) (v .need)) in Lays text names table w (guarded again x y) names₂ (put (ended-table again table₂ (v .code) (w .code)) (c .code) (pos 6 ∷ pos (u .code) ∷ [])) u
+  unfolding moved-to one-more needing ended-walk ended-table guarded stand resolve spare
+  lays-guarded true e h p q = lays-two while refl p q refl refl (λ a b f g. laid-guarded {x = a} {y = b} e f g true) (omega (arith, p .small, q .small)) (p .small .declared)
+  lays-guarded false e h p q = lays-two when refl p q refl refl (λ a b f g. laid-guarded {x = a} {y = b} e f g false) (omega (arith, p .small, q .small)) (p .small .declared)
 
   pub lays-then : {x : Sen Name commands} → Lays text names table w x names₁ table₁ c → Lays text names₁ table₁ c y names₂ table₂ v → Lays text names table w (then x y) names₂ table₂ (needing v (max (c .need) (v .need)))
   unfolding needing stand resolve spare

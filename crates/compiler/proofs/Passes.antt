@@ -15,7 +15,7 @@ use Rattle.sentence.proofs.Walk.{factor-open}
 use Rattle.compiler.specs.Scopes.{name-at}
 use Rattle.compiler.specs.Steps.{fixed-number, sign-number, mul-number, rel-number}
 use Rattle.compiler.proofs.Looked.{Seen, seen-literal, seen-name, seen-fixed, seen-sign, seen-mul, seen-rel, no-fixed, no-lit, no-name, no-sign, no-mul, no-rel}
-use Rattle.compiler.proofs.Reading.{Comes, comes-on, comes-stuck, comes-within, alike, onward, none, too-deep, Way, Passed, Barred, comes, passes, refuses, Leads, leads, begins, refuses-within, Met, Missed}
+use Rattle.compiler.proofs.Reading.{Comes, comes-on, comes-stuck, comes-within, alike, onward, none, too-deep, Way, Passed, Barred, comes, passes, refuses, Leads, leads, begins, refuses-within, Met, Missed, stays, crosses}
 
 -- ---- the ways of the readers
 
@@ -73,10 +73,7 @@ module _ {text : List ℕ} {at : ℕ} {r : code.Lexeme} (s : Seen text at r) (al
   -- after the bracket
   pub bracket-leads : fixed-number (r .kind) ≡ 40 → (allow ≡ 0 → ⊥) → Leads text at (r .end) allow factor-way (suc (allow - 1)) bracket-way (λ f. f)
   unfolding step at-factor on on-lit on-name is code-of verdict depth
-  bracket-leads h z =
-      let e = seen-fixed s open-round h in
-      let g : is end (s .what) ≡ false = rw e in
-      leads (λ a. a) (omega (arith, s .later g)) (λ a. omega arith) (onward s (λ a. step (want-factor a)) g (λ a. want-expression (in-bracket a)) (λ a. rw e) (λ a. omega arith)) (λ x. refl)
+  bracket-leads h z = crosses s (λ a. a) (le-refl at) stays (seen-fixed s open-round h) refl (λ a. omega arith) (λ a. refl) (λ a. omega arith) (λ x. refl)
 
 -- after the bracket: an expression, and the closing bracket
 module _ {text : List ℕ} {at : ℕ} (allow : ℕ) where
@@ -114,12 +111,7 @@ term-first text at allow = begins text at allow term-so-far allow factor-way fir
 module _ {text : List ℕ} {at m : ℕ} {r : code.Lexeme} (allow : ℕ) (t : Sen Name term) (p : Passed term-so-far text at m allow t) (s : Seen text m r) where
   pub term-more : (o : Mul) → mul-number (r .kind) ≡ mul-code o → Leads text at (r .end) allow term-so-far allow factor-way (multiply t o)
   unfolding depth step got-factor after-term on-mul is verdict
-  term-more o h =
-      let e = seen-mul s o h in
-      let g : is end (s .what) ≡ false = rw e in
-      leads (in-multiply t o) (omega (arith, p .later, s .later g)) (λ a. refl)
-      (comes-on (comes p) (onward s (after-term t) g (λ a. want-factor (in-multiply t o a)) (λ a. rw e) (λ a. omega arith)))
-      (λ f. refl)
+  term-more o h = crosses s (in-multiply t o) (omega (arith, p .later)) (comes p) (seen-mul s o h) refl (λ a. refl) (λ a. refl) (λ a. omega arith) (λ f. refl)
 
   pub term-whole : mul-number (r .kind) ≡ 0 → Passed term-way text at m allow t
   unfolding after-term
@@ -137,22 +129,12 @@ module _ {text : List ℕ} {at : ℕ} {r : code.Lexeme} (s : Seen text at r) (al
 
   pub signed-leads : (g : Sign) → sign-number (r .kind) ≡ sign-code g → Leads text at (r .end) allow first-term-way allow term-way (signed g)
   unfolding depth step at-expression on-sign whole-term is verdict
-  signed-leads g h =
-      let e = seen-sign s g h in
-      let b : is end (s .what) ≡ false = rw e in
-      leads (in-signed g) (omega (arith, s .later b)) (λ a. refl)
-      (onward s (λ a. step (want-expression a)) b (λ a. want-factor (in-first (in-signed g a))) (λ a. rw e) (λ a. omega arith))
-      (λ t. refl)
+  signed-leads g h = crosses s (in-signed g) (le-refl at) stays (seen-sign s g h) refl (λ a. refl) (λ a. refl) (λ a. omega arith) (λ t. refl)
 
 module _ {text : List ℕ} {at m : ℕ} {r : code.Lexeme} (allow : ℕ) (d : Sen Name expression) (p : Passed first-term-way text at m allow d) (s : Seen text m r) where
   pub expression-more : (g : Sign) → sign-number (r .kind) ≡ sign-code g → Leads text at (r .end) allow first-term-way allow term-way (add d g)
   unfolding depth step after-expression on-sign whole-term is verdict
-  expression-more g h =
-      let e = seen-sign s g h in
-      let b : is end (s .what) ≡ false = rw e in
-      leads (in-add d g) (omega (arith, p .later, s .later b)) (λ a. refl)
-      (comes-on (comes p) (onward s (after-expression d) b (λ a. want-factor (in-first (in-add d g a))) (λ a. rw e) (λ a. omega arith)))
-      (λ t. refl)
+  expression-more g h = crosses s (in-add d g) (omega (arith, p .later)) (comes p) (seen-sign s g h) refl (λ a. refl) (λ a. refl) (λ a. omega arith) (λ t. refl)
 
   pub expression-whole : sign-number (r .kind) ≡ 0 → Passed expression-way text at m allow d
   unfolding after-expression
@@ -163,12 +145,7 @@ module _ {text : List ℕ} {at m : ℕ} {r : code.Lexeme} (allow : ℕ) (d : Sen
 module _ {text : List ℕ} {at : ℕ} {r : code.Lexeme} (s : Seen text at r) (allow : ℕ) where
   pub negated-leads : fixed-number (r .kind) ≡ 10 → (allow ≡ 0 → ⊥) → Leads text at (r .end) allow condition-way (allow - 1) condition-way negated
   unfolding depth step at-condition on is code-of verdict after-condition
-  negated-leads h z =
-      let e = seen-fixed s NOT h in
-      let b : is end (s .what) ≡ false = rw e in
-      leads in-negated (omega (arith, s .later b)) (λ a. omega arith)
-      (onward s (λ a. step (want-condition a)) b (λ a. want-condition (in-negated a)) (λ a. rw e) (λ a. omega arith))
-      (λ t. refl)
+  negated-leads h z = crosses s in-negated (le-refl at) stays (seen-fixed s NOT h) refl (λ a. omega arith) (λ a. refl) (λ a. omega arith) (λ t. refl)
 
   pub negated-too-deep : fixed-number (r .kind) ≡ 10 → allow ≡ 0 → Barred condition-way text at allow 5 (r .place)
   unfolding depth step at-condition on is code-of verdict
@@ -190,12 +167,7 @@ module _ {text : List ℕ} {at m : ℕ} {r : code.Lexeme} (allow : ℕ) (d : Sen
 
   pub compare-leads : (q : Rel) → rel-number (r .kind) ≡ rel-code q → Leads text at (r .end) allow comparison-way allow expression-way (compare d q)
   unfolding depth step whole-expression on-rel is verdict
-  compare-leads q h =
-      let e = seen-rel s q h in
-      let b : is end (s .what) ≡ false = rw e in
-      leads (in-right d q) (omega (arith, p .later, s .later b)) (λ a. refl)
-      (comes-on left-side (onward s (λ a. whole-expression d (in-left a)) b (λ a. want-expression (in-right d q a)) (λ a. rw e) (λ a. omega arith)))
-      (λ t. refl)
+  compare-leads q h = crosses s (in-right d q) (omega (arith, p .later)) left-side (seen-rel s q h) refl (λ a. refl) (λ a. refl) (λ a. omega arith) (λ t. refl)
 
   pub no-relation : rel-number (r .kind) ≡ 0 → Barred comparison-way text at allow 4 (r .place)
   unfolding whole-expression

@@ -12,7 +12,6 @@ use lib.ListN.{length}
 use Rattle.lexeme.specs.Answers.{Answer, given, refused}
 use Rattle.lexeme.specs.Coded.{sign-code, mul-code, rel-code, code-of}
 use Rattle.lexeme.specs.Lexemes.{Name, Lexeme, Sign, Mul, Rel, end, Placed, Sizes}
-use Rattle.lexeme.specs.declared.Kind.the-variants as kind
 use Rattle.lexeme.specs.declared.Lexeme as code
 use Rattle.sentence.specs.Sentences.{Kind, Sen, command}
 use Rattle.sentence.specs.Reader.{Around, depth, State, whole, nowhere, is, step, Verdict, verdict, goes-on, is-whole, begins-none, read-from, read, want-DO}
@@ -22,7 +21,7 @@ use Rattle.compiler.specs.Lexing.{Lexes, Clean, Expects}
 use Rattle.compiler.specs.Steps.{fixed-number, sign-number, mul-number, rel-number, moved-to}
 use Rattle.compiler.specs.Walks.{read-via, Passes, Refuses}
 use Rattle.compiler.proofs.Refusals.{Only, no-refusal, by-number, only-number}
-use Rattle.compiler.proofs.Looked.{not-empty, Seen, seen, seen-name, seen-sign, seen-mul, seen-rel, no-fixed}
+use Rattle.compiler.proofs.Looked.{not-empty, Seen, seen, seen-sign, seen-mul, seen-rel, no-fixed}
 
 -- ---- one lexeme
 
@@ -203,6 +202,23 @@ module _ {k k′ : Kind} {X X′ : Type 0} {text : List ℕ} {at e allow : ℕ} 
     refuses = λ n p q. refuses text at allow (way .start) n p (comes-stuck c (stuck-within inner same-limit (stuck text e allow′ (way′ .start) n p q)));
   }
 
+-- nothing is read
+pub stays : {I : Type 0} {text : List ℕ} {at : ℕ} {limit : I → ℕ} {f : I → Lexeme → State} → Comes text at at limit f f
+stays = record { same = λ sizes ls h. (ls, h, λ i. refl) }
+
+-- the lexeme l stands between what was read and what is read next
+pub crosses : {k k′ : Kind} {X X′ : Type 0} {text : List ℕ} {at m allow : ℕ} {way : Way k X} {allow′ : ℕ} {way′ : Way k′ X′} {makes : X′ → X} {r : code.Lexeme} {stop : Around k → Lexeme → State} {l : Lexeme} (s : Seen text m r) (inner : Around k → Around k′)
+    → at ≤ m → Comes text at m (λ (a : Around k). depth a + allow) (λ a. step (way .start a)) stop
+    → s .what ≡ l → is end l ≡ false
+    → ((a : Around k) → depth (inner a) + allow′ ≡ depth a + allow)
+    → ((a : Around k) → stop a l ≡ way′ .start (inner a))
+    → ((a : Around k) → Low (depth a + allow) (verdict (way′ .start (inner a))))
+    → ((x : X′) → _≡_ {A = Around k → Lexeme → State} (λ a. way′ .stop x (inner a)) (way .stop (makes x)))
+    → Leads text at (r .end) allow way allow′ way′ makes
+crosses {way′} {stop} s inner near c e g d t low stops =
+    let b : is end (s .what) ≡ false = rw e g in
+    leads inner (omega (arith, s .later b)) d (comes-on c (onward s stop b (λ a. way′ .start (inner a)) (λ a. rw e (t a)) low)) stops
+
 -- a construct that begins with another, where nothing was read yet
 pub begins : {k k′ : Kind} {X X′ : Type 0} (text : List ℕ) (at allow : ℕ) (way : Way k X) (allow′ : ℕ) (way′ : Way k′ X′) (makes : X′ → X) (inner : Around k → Around k′)
     → ((a : Around k) → depth (inner a) + allow′ ≡ depth a + allow)
@@ -212,7 +228,7 @@ pub begins : {k k′ : Kind} {X X′ : Type 0} (text : List ℕ) (at allow : ℕ
 begins {k} text at allow way allow′ way′ makes inner d e stops =
     leads inner (le-refl at) d
     (subst (λ (f : Around k → State). Comes text at at (λ (a : Around k). depth a + allow) (λ a. step (way .start a)) (λ a. step (f a))) e
-    (record { same = λ sizes ls h. (ls, h, λ a. refl) })) stops
+    stays) stops
 
 pub refuses-within : {k k′ : Kind} (text : List ℕ) (at allow allow′ : ℕ) (start′ : Around k′ → State) (n p : ℕ) (inner : Around k → Around k′)
     → ((a : Around k) → depth (inner a) + allow′ ≡ depth a + allow)
@@ -258,17 +274,13 @@ pub record After (sizes : Sizes) (text : List ℕ) (at e : ℕ) : Type 0 where
   pub clean : Clean sizes text e
 
 module _ {text : List ℕ} {at : ℕ} {r : code.Lexeme} (sizes : Sizes) (clean : Clean sizes text at) (s : Seen text at r) where
-  after : is end (s .what) ≡ false → After sizes text at (r .end)
+  pub after : is end (s .what) ≡ false → After sizes text at (r .end)
   unfolding Clean
   after g = let b = s .same sizes (clean .0) (clean .1) in record { later = s .later g; inside = s .inside g; clean = (b .rest, b .more g) }
 
   pub after-fixed : (fixed-number (r .kind) ≡ 0 → ⊥) → After sizes text at (r .end)
   unfolding code-of
   after-fixed h = after (no-fixed s end h)
-
-  pub after-name : r .kind ≡ kind.Name → After sizes text at (r .end)
-  unfolding is
-  after-name h = after (rw (seen-name s h))
 
   pub after-sign : (g : Sign) → sign-number (r .kind) ≡ sign-code g → After sizes text at (r .end)
   unfolding is

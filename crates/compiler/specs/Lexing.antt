@@ -4,8 +4,8 @@ use mathlib.Core.List.{List, _∷_}
 use Prim.Native.Nat.{ℕ, suc, _≤_, _<_}
 use lib.ListN.{length}
 use Rattle.lexeme.specs.Answers.{given}
-use Rattle.lexeme.specs.Lexemes.{Lexeme, Fixed, Placed, Sizes, fixed, end, lexemes-from}
-use Rattle.lexeme.specs.Coded.{kind-of, code-of}
+use Rattle.lexeme.specs.Lexemes.{Lexeme, Placed, Sizes, fixed, end, lexemes-from}
+use Rattle.lexeme.specs.Coded.{kind-of}
 use Rattle.lexeme.specs.declared.Lexeme as code
 use Rattle.compiler.specs.declared.walk.Walk.{Walk}
 use Rattle.compiler.specs.declared.walk.Read.{Read}

@@ -6,6 +6,8 @@ use lib.Dec.{ltb, eqb}
 use lib.IntN.{ℤ, pos}
 use lib.ListN.{length, set}
 use Rattle.lexeme.specs.Bytes.{same}
+use Rattle.lexeme.specs.Lexemes as L
+use Rattle.lexeme.specs.Lexemes.{DO, THEN}
 use Rattle.lexeme.specs.declared.Kind.{Kind}
 use Rattle.lexeme.specs.declared.Kind.the-variants.{Literal, Name, Class, Str, Sign, Mul, Rel, Fixed}
 use Rattle.names.specs.Names.{Declaration}
@@ -13,6 +15,7 @@ use Rattle.compiler.specs.declared.walk.Walk.{Walk}
 use Rattle.compiler.specs.declared.scope.Cell.{Cell}
 use Rattle.compiler.specs.declared.scope.Cell.the-variants.{At, Nowhere}
 use Rattle.compiler.specs.Scopes.{word-at}
+use Rattle.compiler.specs.Tables.{put}
 
 -- ---- the walk
 
@@ -27,6 +30,26 @@ needing w n = record { at = w .at; code = w .code; need = n; declared = w .decla
 
 unfoldable pub faulted-walk : Walk → ℕ → ℕ → Walk
 faulted-walk w n p = cond (eqb (w .fault) 0) (record { at = w .at; code = w .code; need = w .need; declared = w .declared; fault = n; place = p }) w
+
+-- ---- the operation of PRINTLNS, which prints a line, or of PRINTS
+
+unfoldable pub printing-number : Bool → ℤ
+printing-number true = pos 19
+printing-number false = pos 18
+
+-- ---- around the body of an IF, or of a WHILE, which jumps back
+
+unfoldable pub before-body : Bool → L.Fixed
+before-body true = DO
+before-body false = THEN
+
+unfoldable pub ended-walk : Bool → Walk → ℕ → Walk
+ended-walk true w n = one-more w n
+ended-walk false w n = needing w n
+
+unfoldable pub ended-table : Bool → List ℤ → ℕ → ℕ → List ℤ
+ended-table true table n back = put table n (pos 5 ∷ pos back ∷ [])
+ended-table false table n back = table
 
 -- ---- the lexeme's kind as a number; 255, or 0, where it is none of such
 

@@ -147,18 +147,23 @@ Reads-read = Reads command want-read after-command
 abbrev pub Reads-assign : ℕ → Reading
 Reads-assign place = λ text. Reads command (want-becomes (name-at text place)) after-command text
 
-abbrev pub Reads-when : Reading
-Reads-when = λ text names table w allow. Reads command (λ a. want-condition (in-when a)) after-command text names table w (suc allow)
+-- after IF, or after WHILE, whose body is done again
+unfoldable pub want-guarded : Bool → Around command → State
+want-guarded true a = want-condition (in-while a)
+want-guarded false a = want-condition (in-when a)
 
-abbrev pub Reads-while : Reading
-Reads-while = λ text names table w allow. Reads command (λ a. want-condition (in-while a)) after-command text names table w (suc allow)
+abbrev pub Reads-guarded : Bool → Reading
+Reads-guarded again = λ text names table w allow. Reads command (want-guarded again) after-command text names table w (suc allow)
 
 abbrev pub Reads-block : Reading
 Reads-block = λ text names table w allow. Reads command (λ a. want-command (in-block a)) after-command text names table w (suc allow)
 
 -- after IF, WHILE or `{`, by its number
-unfoldable pub Reads-nested : ℕ → Reading
-Reads-nested f = cond (eqb f 6) Reads-when (cond (eqb f 21) Reads-while Reads-block)
+unfoldable pub want-nested : ℕ → Around command → State
+want-nested f = cond (eqb f 123) (λ a. want-command (in-block a)) (want-guarded (eqb f 21))
+
+abbrev pub Reads-nested : ℕ → Reading
+Reads-nested f = λ text names table w allow. Reads command (want-nested f) after-command text names table w (suc allow)
 
 -- ---- a whole Program
 

@@ -1,6 +1,9 @@
 // Commands: one walk reads and translates. Only bodies and blocks recurse; the commands of a block are a loop.
+ghost use mathlib.Core.Path.{_≡_};
 ghost use Prim.Native.Nat.{_<_};
-ghost use Rattle.compiler.specs.Walks.{Ready, Reads-command, Reads-print, Reads-string, Reads-declare, Reads-read, Reads-assign, Reads-nested, Reads-when, Reads-while, Reads-block};
+ghost use Rattle.lexeme.specs.Coded.{code-of};
+ghost use Rattle.compiler.specs.Steps.{printing-number, before-body, ended-walk, ended-table};
+ghost use Rattle.compiler.specs.Walks.{Ready, Reads-command, Reads-print, Reads-string, Reads-declare, Reads-read, Reads-assign, Reads-nested, Reads-guarded, Reads-block};
 use crate::expression;
 use crate::scope;
 use crate::seen;
@@ -24,7 +27,14 @@ fn print_int(text: &[u8], names: &[usize], table: &mut [i32], w: Walk, allow: us
     Read::Done(walk::emitted(table, x, 17, 0, x.need))
 }
 
-// After PRINTLNS, which prints a line, or PRINTS.
+// The operation of PRINTLNS, which prints a line, or of PRINTS.
+fn printing(line: bool) -> i32
+    ensures { λ r. ⌜ r ≡ printing-number line ⌝ }
+{
+    if line { 19 } else { 18 }
+}
+
+// After PRINTLNS or PRINTS.
 fn print_string(
     text: &[u8],
     names: &[usize],
@@ -43,10 +53,7 @@ fn print_string(
     };
     let x = walk::moved(w, l.end);
     let s = (l.place + 1) as i32;
-    if line {
-        return Read::Done(walk::emitted(table, x, 19, s, 0));
-    }
-    Read::Done(walk::emitted(table, x, 18, s, 0))
+    Read::Done(walk::emitted(table, x, printing(line), s, 0))
 }
 
 // After INT.
@@ -103,6 +110,26 @@ fn assign(
     Read::Done(walk::emitted(table, y, 4, k as i32, y.need))
 }
 
+// ---- around the body of an IF or a WHILE
+
+// The number of DO, which stands before a body that is done again, or of THEN.
+fn before_body(again: bool) -> u8
+    ensures { λ r. ⌜ r ≡ code-of (before-body again) ⌝ }
+{
+    if again { 3 } else { 19 }
+}
+
+// After the body: WHILE jumps back to its condition.
+fn ended(table: &mut [i32], w: Walk, again: bool, back: usize, need: usize) -> Walk
+    requires { ⌜ (w .code < 10000000) × (back < 10000000) ⌝ }
+    ensures { λ r. ⌜ (r ≡ ended-walk again w need) × (now (table .exit) ≡ ended-table again (now (table .entry)) (w .code) back) ⌝ }
+{
+    if again {
+        return walk::emitted(table, w, 5, back as i32, need);
+    }
+    walk::with_need(w, need)
+}
+
 // ---- commands
 
 pub fn command(text: &[u8], names: &mut [usize], table: &mut [i32], w: Walk, allow: usize) -> Read
@@ -138,23 +165,29 @@ fn nested(text: &[u8], names: &mut [usize], table: &mut [i32], w: Walk, f: u8, a
     requires { do ⌜ Ready (record { word = (← ⟦Limits::WORD⟧); string = (← ⟦Limits::STRING⟧); literal = (← ⟦Limits::LITERAL⟧) }) (now text) (now names) w allow ⌝ }
     ensures { λ r. ⌜ Reads-nested f (now (text .entry)) (now (names .entry)) (now (table .entry)) w allow r (now (names .exit)) (now (table .exit)) ⌝ }
 {
-    match f {
-        6 => if_command(text, names, table, w, allow),
-        21 => while_command(text, names, table, w, allow),
-        _ => block(text, names, table, w, allow),
+    if f == b'{' {
+        return block(text, names, table, w, allow);
     }
+    guarded(text, names, table, w, f == 21, allow)
 }
 
-// After IF, with so many nestings allowed inside.
-fn if_command(text: &[u8], names: &mut [usize], table: &mut [i32], w: Walk, allow: usize) -> Read
+// After IF, or after WHILE, whose body is done again; with so many nestings allowed inside.
+fn guarded(
+    text: &[u8],
+    names: &mut [usize],
+    table: &mut [i32],
+    w: Walk,
+    again: bool,
+    allow: usize,
+) -> Read
     requires { do ⌜ Ready (record { word = (← ⟦Limits::WORD⟧); string = (← ⟦Limits::STRING⟧); literal = (← ⟦Limits::LITERAL⟧) }) (now text) (now names) w allow ⌝ }
-    ensures { λ r. ⌜ Reads-when (now (text .entry)) (now (names .entry)) (now (table .entry)) w allow r (now (names .exit)) (now (table .exit)) ⌝ }
+    ensures { λ r. ⌜ Reads-guarded again (now (text .entry)) (now (names .entry)) (now (table .entry)) w allow r (now (names .exit)) (now (table .exit)) ⌝ }
 {
     let r = expression::condition(text, names, table, w, allow);
     let Read::Done(c) = r else {
         return r;
     };
-    let s = seen::expect(text, c, 19);
+    let s = seen::expect(text, c, before_body(again));
     let Read::Done(x) = s else {
         return s;
     };
@@ -162,29 +195,9 @@ fn if_command(text: &[u8], names: &mut [usize], table: &mut [i32], w: Walk, allo
     let Read::Done(y) = t else {
         return t;
     };
-    walk::put(table, x.code, 6, y.code as i32);
-    Read::Done(walk::with_need(y, walk::larger(x.need, y.need)))
-}
-
-// After WHILE, with so many nestings allowed inside.
-fn while_command(text: &[u8], names: &mut [usize], table: &mut [i32], w: Walk, allow: usize) -> Read
-    requires { do ⌜ Ready (record { word = (← ⟦Limits::WORD⟧); string = (← ⟦Limits::STRING⟧); literal = (← ⟦Limits::LITERAL⟧) }) (now text) (now names) w allow ⌝ }
-    ensures { λ r. ⌜ Reads-while (now (text .entry)) (now (names .entry)) (now (table .entry)) w allow r (now (names .exit)) (now (table .exit)) ⌝ }
-{
-    let r = expression::condition(text, names, table, w, allow);
-    let Read::Done(c) = r else {
-        return r;
-    };
-    let s = seen::expect(text, c, 3);
-    let Read::Done(x) = s else {
-        return s;
-    };
-    let t = command(text, names, table, walk::skipped(x, 0), allow);
-    let Read::Done(y) = t else {
-        return t;
-    };
-    walk::put(table, x.code, 6, (y.code + 1) as i32);
-    Read::Done(walk::emitted(table, y, 5, w.code as i32, walk::larger(x.need, y.need)))
+    let end = ended(table, y, again, w.code, walk::larger(x.need, y.need));
+    walk::put(table, x.code, 6, end.code as i32);
+    Read::Done(end)
 }
 
 // After `{`, with so many nestings allowed inside.

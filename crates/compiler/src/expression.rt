@@ -14,17 +14,10 @@ fn factor(text: &[u8], names: &[usize], table: &mut [i32], w: Walk, allow: usize
 {
     let l = seen::look(text, w.at);
     let kind = l.kind;
+    let x = walk::moved(w, l.end);
     match kind {
-        Kind::Literal(v) => Read::Done(walk::emitted(table, walk::moved(w, l.end), 2, v as i32, 1)),
-        Kind::Name => Read::Done(scope::used(
-            text,
-            names,
-            table,
-            walk::moved(w, l.end),
-            l.place,
-            3,
-            1,
-        )),
+        Kind::Literal(v) => Read::Done(walk::emitted(table, x, 2, v as i32, 1)),
+        Kind::Name => Read::Done(scope::used(text, names, table, x, l.place, 3, 1)),
         _ => {
             if seen::fixed_of(kind) != b'(' {
                 return Read::Refused(4, l.place);
@@ -32,7 +25,7 @@ fn factor(text: &[u8], names: &[usize], table: &mut [i32], w: Walk, allow: usize
             if allow == 0 {
                 return Read::Refused(5, l.place);
             }
-            bracket(text, names, table, walk::moved(w, l.end), allow - 1)
+            bracket(text, names, table, x, allow - 1)
         }
     }
 }

@@ -1,20 +1,22 @@
 -- `compiler::command::assign` meets its contract. Assumes nothing.
 use borrow.Author.Needs.{needs}
-use mathlib.Core.Path.{ap}
+use mathlib.Core.Path.{refl, ap}
 use native.Mathlib.Omega.{arith}
 use denote.Ref.{now}
 use lib.IntN.{pos}
 use mir.Facts.{toZ-ofZ}
 use mir.Syntax.{w32}
 use mir.Val.{SFits}
-use Rattle.sentence.specs.Sentences.{assign}
-use Rattle.compiler.specs.Scopes.{word-at, name-at}
-use Rattle.compiler.specs.Steps.{moved-to, one-more, cell-number}
-use Rattle.compiler.specs.Walks.{Reads}
-use Rattle.compiler.proofs.Commands.{assign-leads, no-becomes}
+use Rattle.compiler.specs.Scopes.{word-at}
+use Rattle.compiler.specs.Steps.{moved-to, cell-number}
+use Rattle.compiler.specs.Walks.{Ready, Reads}
+use Rattle.compiler.proofs.Bodies.{assigned}
+use Rattle.compiler.proofs.Commands.{assign-way, assign-leads, no-becomes}
 use Rattle.compiler.proofs.Found.{found-below}
-use Rattle.compiler.proofs.Lays.{lays-assign, noted-beside, ready-noted, counts-fit}
-use Rattle.compiler.proofs.Reading.{Met, missed, after-met}
+use Rattle.compiler.proofs.Lays.{noted-beside, ready-noted}
+use Rattle.compiler.proofs.Passes.{expression-way}
+use Rattle.compiler.proofs.Reading.{Met, missed}
+use Rattle.compiler.proofs.Replies.{Got, got, done, sizes-of, counts-got}
 use Rattle.compiler.proofs.Expected.{Expected, expected, ready-expected}
 use Rattle.compiler.proofs.Stores.{count-fits}
 use Rattle.compiler.specs.declared.walk.Walk.{Walk}
@@ -48,8 +50,11 @@ noted-requires c κs = search needs
 to-noted : (c : tie.After-noted) → Met (now (c .before .before .before .before .before .before .before .before .before .args .text)) (c .before .before .before .before .before .before .before .before .before .args .w .at) 58 (c .noted .result .at)
 to-noted c = rw (c .noted .ensures, noted-beside _ _ _ .at) (becomes (c .before .before .before .before) .met)
 
+ready-value : (c : tie.After-noted) → Ready (sizes-of (c .before .before .before .before .before .before .before .before .before .pre)) (now (c .before .before .before .before .before .before .before .before .before .args .text)) (now (c .before .before .before .before .before .before .before .before .before .args .names)) (c .noted .result) (c .before .before .before .before .before .before .before .before .before .args .allow)
+ready-value c = rw (c .noted .ensures) (ready-noted (ready-expected (c .before .before .before .before .before .before .before .before .before .pre) (λ h. omega arith) (becomes (c .before .before .before .before))) _ _)
+
 expression-requires : tie.Need-expression-requires
-expression-requires c κs = rw (c .noted .ensures) (ready-noted (ready-expected (c .before .before .before .before .before .before .before .before .before .pre) (λ h. omega arith) (becomes (c .before .before .before .before))) _ _)
+expression-requires c κs = ready-value c
 
 enum-known-s : tie.Need-enum-known-s
 enum-known-s c = search needs
@@ -76,20 +81,18 @@ fits c =
 cast-emitted : tie.Need-cast-emitted
 cast-emitted c = fits (c .before)
 
+-- the Expression, read after `:=`
+value : (c : tie.After-s) → Got expression-way (now (c .before .before .before .before .before .before .before .before .before .before .before .before .before .args .text)) (now (c .before .before .before .before .before .before .before .before .before .before .before .before .before .args .names)) (now (c .before .before .before .before .before .before .before .before .before .before .before .before .before .args .table)) (c .before .before .before .before .noted .result) (c .before .before .before .before .before .before .before .before .before .before .before .before .before .args .allow) (now (c .before .before .before .before .before .before .before .before .before .before .before .before .before .args .names)) (c .before .before .before .expression .last .1 .1 .0) (c .s .given .0 .0)
+value c = got expression-way (c .s .given .1) (c .before .before .before .expression .ensures)
+
 emitted-requires : tie.Need-emitted-requires
-unfolding Reads
-emitted-requires c κs = let g = rw (c .before .before .before .before .before .before .before .noted .ensures, c .before .before .before .s .given .1) at (c .before .before .before .before .before .before .expression .ensures) in
-    counts-fit (ready-noted (ready-expected (c .before .before .before .before .before .before .before .before .before .before .before .before .before .before .before .before .pre) (λ h. omega arith) (becomes (c .before .before .before .before .before .before .before .before .before .before .before))) _ _) (g .2) (g .1 .inside) .0
+emitted-requires c κs = counts-got (ready-value (c .before .before .before .before .before .before .before)) (value (c .before .before .before)) .0
 
 same-length-2 : tie.Need-same-length-2
 same-length-2 c = search needs
 
 returns-3 : tie.Need-returns-3
-unfolding Reads one-more moved-to
-returns-3 c = let x = becomes (c .before .before .before .before .before .before .before .before .before .before .before .before .before) in
-    let g = rw (c .before .before .before .before .before .before .before .before .before .noted .ensures, c .before .before .before .before .before .before .before .before .before .before .before .look-up .ensures, x .moved, c .before .before .before .before .before .s .given .1) at (c .before .before .before .before .before .before .before .before .expression .ensures) in
-    rw (c .before .emitted .ensures .0, c .before .emitted .ensures .1, toZ-ofZ (fits (c .before .before .before)), c .before .before .before .cell-of .ensures, c .before .before .before .before .before .before .before .before .before .before .before .look-up .ensures, x .moved)
-    (assign (name-at (now (c .before .before .before .before .before .before .before .before .before .before .before .before .before .before .before .before .before .before .args .text)) (c .before .before .before .before .before .before .before .before .before .before .before .before .before .before .before .before .before .before .args .place)) (g .0), assign-leads _ _ (rw (c .before .before .before .before .before .before .before .before .before .noted .ensures, c .before .before .before .before .before .before .before .before .before .before .before .look-up .ensures, x .moved) at (to-noted (c .before .before .before .before .before .before .before .before .before))) .passes (g .0) (g .1), lays-assign (c .before .before .before .before .before .before .before .before .before .before .before .before .before .before .before .before .before .before .args .place) (c .before .before .before .before .before .before .before .before .before .before .before .before .before .r .given .0 .0 .at) (omega (arith, after-met _ (c .before .before .before .before .before .before .before .before .before .before .before .before .before .before .before .before .before .before .pre .clean) (x .met) (λ h. omega arith) .later)) (g .2))
+returns-3 c = done (assign-way _) refl (rw (c .before .emitted .ensures .0, c .before .emitted .ensures .1, toZ-ofZ (fits (c .before .before .before)), c .before .before .before .cell-of .ensures) (assigned (c .before .before .before .before .before .before .before .before .before .before .before .before .before .before .before .before .before .before .args .place) (c .before .before .before .before .before .before .before .before .before .before .before .before .before .before .before .before .before .before .pre) (becomes (c .before .before .before .before .before .before .before .before .before .before .before .before .before)) (c .before .before .before .before .before .before .before .before .before .before .before .look-up .ensures) (c .before .before .before .before .before .before .before .before .before .noted .ensures) (value (c .before .before .before .before .before))))
 
 pub assign-spec : {M : Type 1} → statement M
 assign-spec =

@@ -12,9 +12,9 @@ use Rattle.compiler.specs.Steps.{moved-to, one-more}
 use Rattle.compiler.specs.Walks.{Reads}
 use Rattle.compiler.proofs.Commands.{name-declared, none-declared}
 use Rattle.compiler.proofs.Lays.{lays-declare, declared-beside}
-use Rattle.compiler.proofs.Looked.{seen}
 use Rattle.compiler.proofs.Expected.{place-inside}
 use Rattle.compiler.proofs.Others.{not-name}
+use Rattle.compiler.proofs.Replies.{ready-seen, code-fits}
 use Rattle.compiler.proofs.Stores.{count-fits}
 use Rattle.compiler.proofs.command.declare.Statement.{statement}
 use Rattle.compiler.proofs.command.declare.Tie as tie
@@ -27,14 +27,14 @@ enum-told c = search needs
 
 returns : tie.Need-returns
 unfolding Reads
-returns c = none-declared (seen _ _ _ _ (c .before .before .before .before .pre .clean) (c .before .look .ensures)) _ (not-name (c .match .keys2))
+returns c = none-declared (ready-seen (c .before .before .before .before .pre) (c .before .look .ensures)) _ (not-name (c .match .keys2))
 
 moved-requires : tie.Need-moved-requires
 moved-requires c κs = search needs
 
 emitted-requires : tie.Need-emitted-requires
 unfolding moved-to
-emitted-requires c κs = rw (c .moved .ensures) (omega (arith, c .before .before .before .before .before .before .before .pre .short, c .before .before .before .before .before .before .before .pre .code, c .before .before .before .before .before .before .before .pre .inside))
+emitted-requires c κs = rw (c .moved .ensures) (code-fits (c .before .before .before .before .before .before .before .pre))
 
 fits : (c : tie.After-struct-known) → SFits w32 (pos (c .before .before .before .emitted .result .declared))
 unfolding one-more moved-to
@@ -58,7 +58,7 @@ same-length-2 c = search needs
 
 returns-2 : tie.Need-returns-2
 unfolding Reads one-more moved-to
-returns-2 c = let p = name-declared (seen _ _ _ _ (c .before .before .before .before .before .before .before .before .before .before .before .before .before .before .before .before .before .pre .clean) (c .before .before .before .before .before .before .before .before .before .before .before .before .before .before .look .ensures)) (c .before .before .before .before .before .before .before .before .before .before .before .before .before .before .before .before .before .args .allow) (c .before .before .before .before .before .before .before .before .before .before .before .before .enum-told .given .1) in
+returns-2 c = let p = name-declared (ready-seen (c .before .before .before .before .before .before .before .before .before .before .before .before .before .before .before .before .before .pre) (c .before .before .before .before .before .before .before .before .before .before .before .before .before .before .look .ensures)) (c .before .before .before .before .before .before .before .before .before .before .before .before .before .before .before .before .before .args .allow) (c .before .before .before .before .before .before .before .before .before .before .before .before .enum-told .given .1) in
     let y = one-more (one-more (moved-to (c .before .before .before .before .before .before .before .before .before .before .before .before .before .before .before .before .before .args .w) (c .before .before .before .before .before .before .before .before .before .before .before .before .before .before .look .result .end)) 1) 1 in
     rw (c .before .before .declared .ensures .0, c .before .before .declared .ensures .1, c .before .before .before .before .before .emitted2 .ensures .0, c .before .before .before .before .before .emitted2 .ensures .1, toZ-ofZ (fits (c .before .before .before .before .before .before)), c .before .before .before .before .before .before .before .before .before .emitted .ensures .0, c .before .before .before .before .before .before .before .before .before .emitted .ensures .1, c .before .before .before .before .before .before .before .before .before .before .moved .ensures)
     (declare (name-at (now (c .before .before .before .before .before .before .before .before .before .before .before .before .before .before .before .before .before .args .text)) (c .before .before .before .before .before .before .before .before .before .before .before .before .before .before .look .result .place)), rw (declared-beside (now (c .before .before .before .before .before .before .before .before .before .before .before .before .before .before .before .before .before .args .text)) (now (c .before .before .before .before .before .before .before .before .before .before .before .before .before .before .before .before .before .args .names)) y (c .before .before .before .before .before .before .before .before .before .before .before .before .before .before .look .result .place) (c .before .before .before .before .before .before .before .before .before .before .before .before .before .before .before .before .before .pre .declared) .at) p, lays-declare (c .before .before .before .before .before .before .before .before .before .before .before .before .before .before .look .result .place) (c .before .before .before .before .before .before .before .before .before .before .before .before .before .before .look .result .end) (p .later) (c .before .before .before .before .before .before .before .before .before .before .before .before .before .before .before .before .before .pre .declared))

@@ -1,10 +1,13 @@
 -- `compiler::command::print_int` meets its contract. Assumes nothing.
 use borrow.Author.Needs.{needs}
+use denote.Ref.{now}
 use Rattle.compiler.specs.Steps.{one-more}
 use Rattle.compiler.specs.Walks.{Reads}
 use Rattle.sentence.specs.Sentences.{print}
 use Rattle.compiler.proofs.Commands.{print-leads}
-use Rattle.compiler.proofs.Lays.{lays-print, counts-fit}
+use Rattle.compiler.proofs.Lays.{lays-print}
+use Rattle.compiler.proofs.Passes.{expression-way}
+use Rattle.compiler.proofs.Replies.{Got, got, counts-got}
 use Rattle.compiler.proofs.command.print_int.Statement.{statement}
 use Rattle.compiler.proofs.command.print_int.Tie as tie
 
@@ -24,17 +27,19 @@ returns : tie.Need-returns
 unfolding Reads
 returns c = rw (c .enum-told .given .1) (print-leads _ _ _ .refuses _ _ (rw (c .enum-told .given .1) at (c .before .before .before .expression .ensures)))
 
+-- the Expression
+value : (c : tie.After-r) → Got expression-way (now (c .before .before .before .before .before .before .before .args .text)) (now (c .before .before .before .before .before .before .before .args .names)) (now (c .before .before .before .before .before .before .before .args .table)) (c .before .before .before .before .before .before .before .args .w) (c .before .before .before .before .before .before .before .args .allow) (now (c .before .before .before .before .before .before .before .args .names)) (c .before .before .before .expression .last .1 .1 .0) (c .r .given .0 .0)
+value c = got expression-way (c .r .given .1) (c .before .before .before .expression .ensures)
+
 emitted-requires : tie.Need-emitted-requires
-unfolding Reads
-emitted-requires c κs = let g = rw (c .before .before .r .given .1) at (c .before .before .before .before .before .expression .ensures) in counts-fit (c .before .before .before .before .before .before .before .before .before .pre) (g .2) (g .1 .inside) .0
+emitted-requires c κs = counts-got (c .before .before .before .before .before .before .before .before .before .pre) (value (c .before .before)) .0
 
 same-length-2 : tie.Need-same-length-2
 same-length-2 c = search needs
 
 returns-2 : tie.Need-returns-2
 unfolding Reads one-more
-returns-2 c = let g = rw (c .before .before .before .before .r .given .1) at (c .before .before .before .before .before .before .before .expression .ensures) in
-    rw (c .before .emitted .ensures .0, c .before .emitted .ensures .1) (print (g .0), print-leads _ _ _ .passes (g .0) (g .1), lays-print (g .2))
+returns-2 c = let g = value (c .before .before .before .before) in rw (c .before .emitted .ensures .0, c .before .emitted .ensures .1) (print (g .what), print-leads _ _ _ .passes (g .what) (g .passed), lays-print (g .laid))
 
 pub print-int-spec : {M : Type 1} → statement M
 print-int-spec =

@@ -7,14 +7,14 @@ use lib.IntN.{pos}
 use mir.Facts.{toZ-ofZ}
 use mir.Syntax.{w32}
 use mir.Val.{SFits}
-use Rattle.sentence.specs.Sentences.{print-line, print-string}
 use Rattle.compiler.specs.Steps.{moved-to, one-more}
 use Rattle.compiler.specs.Walks.{Reads}
-use Rattle.compiler.proofs.Commands.{line-printed, string-printed, no-quoted}
-use Rattle.compiler.proofs.Lays.{lays-print-line, lays-print-string}
-use Rattle.compiler.proofs.Looked.{seen, quoted-at}
+use Rattle.compiler.proofs.Commands.{quoted-printed, no-quoted}
+use Rattle.compiler.proofs.Lays.{quoted, lays-quoted}
+use Rattle.compiler.proofs.Looked.{quoted-at}
 use Rattle.compiler.proofs.Expected.{place-inside}
 use Rattle.compiler.proofs.Others.{not-string}
+use Rattle.compiler.proofs.Replies.{ready-seen, code-fits}
 use Rattle.compiler.proofs.Stores.{count-fits}
 use Rattle.compiler.proofs.command.print_string.Statement.{statement}
 use Rattle.compiler.proofs.command.print_string.Tie as tie
@@ -27,7 +27,7 @@ enum-told c = search needs
 
 returns : tie.Need-returns
 unfolding Reads
-returns c = no-quoted (seen _ _ _ _ (c .before .before .before .before .pre .clean) (c .before .look .ensures)) _ _ (not-string (c .match .keys2))
+returns c = no-quoted (ready-seen (c .before .before .before .before .pre) (c .before .look .ensures)) _ _ (not-string (c .match .keys2))
 
 moved-requires : tie.Need-moved-requires
 moved-requires c κs = search needs
@@ -41,31 +41,21 @@ fits c = count-fits (omega (arith, c .before .before .before .before .before .be
 cast-s : tie.Need-cast-s
 cast-s c = fits c
 
+printing-requires : tie.Need-printing-requires
+printing-requires c κs = search needs
+
 emitted-requires : tie.Need-emitted-requires
 unfolding moved-to
-emitted-requires c κs = rw (c .before .before .before .moved .ensures) (omega (arith, c .before .before .before .before .before .before .before .before .before .pre .short, c .before .before .before .before .before .before .before .before .before .pre .code, c .before .before .before .before .before .before .before .before .before .pre .inside))
+emitted-requires c κs = rw (c .before .before .before .moved .ensures) (code-fits (c .before .before .before .before .before .before .before .before .before .pre))
 
 same-length : tie.Need-same-length
 same-length c = search needs
 
 returns-2 : tie.Need-returns-2
 unfolding Reads one-more moved-to quoted-at
-returns-2 c = let p = line-printed (seen _ _ _ _ (c .before .before .before .before .before .before .before .before .before .before .before .pre .clean) (c .before .before .before .before .before .before .before .before .look .ensures)) (c .before .before .before .before .before .before .before .before .before .before .before .args .allow) (c .before .before .before .before .before .before .enum-told .given .1) in
-    rw (c .before .emitted .ensures .0, c .before .emitted .ensures .1, toZ-ofZ (fits (c .before .before .before .before)), c .before .before .before .before .before .moved .ensures, c .before .before .before .if1 .taken)
-    (print-line _, p, lays-print-line _ (c .before .before .before .before .before .before .before .before .look .result .place) _ refl (p .later) (c .before .before .before .before .before .before .before .before .before .before .before .pre .declared))
-
-emitted-requires-2 : tie.Need-emitted-requires-2
-unfolding moved-to
-emitted-requires-2 c κs = rw (c .before .before .before .moved .ensures) (omega (arith, c .before .before .before .before .before .before .before .before .before .pre .short, c .before .before .before .before .before .before .before .before .before .pre .code, c .before .before .before .before .before .before .before .before .before .pre .inside))
-
-same-length-2 : tie.Need-same-length-2
-same-length-2 c = search needs
-
-returns-3 : tie.Need-returns-3
-unfolding Reads one-more moved-to quoted-at
-returns-3 c = let p = string-printed (seen _ _ _ _ (c .before .before .before .before .before .before .before .before .before .before .before .pre .clean) (c .before .before .before .before .before .before .before .before .look .ensures)) (c .before .before .before .before .before .before .before .before .before .before .before .args .allow) (c .before .before .before .before .before .before .enum-told .given .1) in
-    rw (c .before .emitted2 .ensures .0, c .before .emitted2 .ensures .1, toZ-ofZ (fits (c .before .before .before .before)), c .before .before .before .before .before .moved .ensures, c .before .before .before .if1 .left)
-    (print-string _, p, lays-print-string _ (c .before .before .before .before .before .before .before .before .look .result .place) _ refl (p .later) (c .before .before .before .before .before .before .before .before .before .before .before .pre .declared))
+returns-2 c = let p = quoted-printed (ready-seen (c .before .before .before .before .before .before .before .before .before .before .before .pre) (c .before .before .before .before .before .before .before .before .look .ensures)) (c .before .before .before .before .before .before .before .before .before .before .before .args .allow) (c .before .before .before .before .before .before .before .before .before .before .before .args .line) (c .before .before .before .before .before .before .enum-told .given .1) in
+    rw (c .before .emitted .ensures .0, c .before .emitted .ensures .1, toZ-ofZ (record { sfits = c .before .before .printing .ok }), c .before .before .printing .ensures, toZ-ofZ (fits (c .before .before .before .before)), c .before .before .before .before .before .moved .ensures)
+    (quoted (c .before .before .before .before .before .before .before .before .before .before .before .args .line) _, p, lays-quoted (c .before .before .before .before .before .before .before .before .before .before .before .args .line) _ (c .before .before .before .before .before .before .before .before .look .result .place) _ refl (p .later) (c .before .before .before .before .before .before .before .before .before .before .before .pre .declared))
 
 pub print-string-spec : {M : Type 1} → statement M
 print-string-spec =
@@ -77,9 +67,7 @@ print-string-spec =
     moved-requires
     add-s
     cast-s
+    printing-requires
     emitted-requires
     same-length
-    returns-2
-    emitted-requires-2
-    same-length-2
-    returns-3)
+    returns-2)

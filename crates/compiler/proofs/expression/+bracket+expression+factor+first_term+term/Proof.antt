@@ -31,7 +31,7 @@ use Rattle.compiler.proofs.Literals.{literal-bound}
 use Rattle.compiler.proofs.Looked.{Seen, sign-found}
 use Rattle.compiler.proofs.Passes.{factor-way, term-so-far, term-way, first-term-way, expression-way, literal-factor, variable-factor, no-factor, bracket-too-deep, bracket-leads, bracket-closed, bracket-unclosed, bracket-refused, term-first, term-whole, unsigned-leads, signed-leads, expression-whole}
 use Rattle.compiler.proofs.Reading.{After, met, missed, after-met, after-sign}
-use Rattle.compiler.proofs.Replies.{Got, Rounds, At-operator, got, done, handed-on, ready-seen, ready-next, fixed-after, sizes-of, code-fits, ready-got, counts-got, term-joins, expression-joins, operator-after, right-ready, right-refused, right-joined}
+use Rattle.compiler.proofs.Replies.{Got, Rounds, Next, got, done, handed-on, ready-seen, ready-next, fixed-after, sizes-of, code-fits, ready-got, counts-got, term-joins, expression-joins, next-seen, none-next, right-ready, right-refused, right-small, right-later, round-on}
 use Rattle.compiler.proofs.Stores.{count-fits}
 use borrow.Fn.Kinds.{In}
 use borrow.Fn.PlainCycle.{Measures, is, falls, and}
@@ -230,19 +230,19 @@ expression-sign-of-requires t c κs = search needs
 expression-same-length-2 : (t : ℕ) → expression-lts.Need-same-length-2 (expression-calls t) (expression-at t) expression.Post expression-Inv-loop expression-μ-loop
 expression-same-length-2 t c = search needs
 
+-- the lexeme after it
+expression-next : (t : ℕ) (c : expression-lts.After-sign-of (expression-calls t) (expression-at t) expression.Post expression-Inv-loop expression-μ-loop) → Next sign-number (sizes-of (c .before .before .before .before .before .before .before .before .before .before .before .pre .1)) (now (c .before .before .before .before .before .before .before .before .before .before .before .args .text)) (now (c .before .before .before .before .before .before .before .before .before .before .before .args .names)) (c .before .before .loop .left) (c .before .before .before .before .before .before .before .before .before .before .before .args .allow) (c .before .look .result) (c .sign-of .result)
+expression-next t c = record { ready = ready-got (c .before .before .before .before .before .before .before .before .before .before .before .pre .1) (expression-now t (c .before .before)); looks = c .before .look .ensures; numbered = c .sign-of .ensures }
+
 expression-returns-2 : (t : ℕ) → expression-lts.Need-returns-2 (expression-calls t) (expression-at t) expression.Post expression-Inv-loop expression-μ-loop
 unfolding Reads
-expression-returns-2 t c = let g = expression-now t (c .before .before .before) in (g .what, expression-whole _ (g .what) (g .passed) (ready-seen (ready-got (c .before .before .before .before .before .before .before .before .before .before .before .before .pre .1) g) (c .before .before .look .ensures)) (sym (c .before .sign-of .ensures) ∙ c .if1 .taken), g .laid)
+expression-returns-2 t c = let g = expression-now t (c .before .before .before) in let n = expression-next t (c .before) in (g .what, expression-whole _ (g .what) (g .passed) (next-seen n) (none-next n (c .if1 .taken)), g .laid)
 
 expression-moved-requires : (t : ℕ) → expression-lts.Need-moved-requires (expression-calls t) (expression-at t) expression.Post expression-Inv-loop expression-μ-loop
 expression-moved-requires t c κs = search needs
 
--- a sign stands next
-expression-operator : (t : ℕ) (c : expression-lts.After-term-arg (expression-calls t) (expression-at t) expression.Post expression-Inv-loop expression-μ-loop) → At-operator sign-number (sizes-of (c .before .before .before .before .before .before .before .before .before .before .before .before .before .pre .1)) (now (c .before .before .before .before .before .before .before .before .before .before .before .before .before .args .text)) (now (c .before .before .before .before .before .before .before .before .before .before .before .before .before .args .names)) (c .before .before .before .before .loop .left) (c .before .before .before .before .before .before .before .before .before .before .before .before .before .args .allow) (c .before .before .before .look .result)
-expression-operator t c = record { ready = ready-got (c .before .before .before .before .before .before .before .before .before .before .before .before .before .pre .1) (expression-now t (c .before .before .before .before)); looks = c .before .before .before .look .ensures; some = λ z. c .before .if1 .left (c .before .before .sign-of .ensures ∙ z) }
-
 expression-term-requires : (t : ℕ) → expression-lts.Need-term-requires (expression-calls t) (expression-at t) expression.Post expression-Inv-loop expression-μ-loop
-expression-term-requires t c κs = (omega arith, rw (c .moved .ensures) (right-ready expression-joins (expression-operator t (c .before))))
+expression-term-requires t c κs = (omega arith, right-ready (expression-next t (c .before .before .before)) expression-joins (c .before .before .if1 .left) (c .moved .ensures))
 
 expression-enum-known-r : (t : ℕ) → expression-lts.Need-enum-known-r (expression-calls t) (expression-at t) expression.Post expression-Inv-loop expression-μ-loop
 expression-enum-known-r t c = search needs
@@ -254,91 +254,80 @@ expression-same-length-3 : (t : ℕ) → expression-lts.Need-same-length-3 (expr
 expression-same-length-3 t c = search needs
 
 expression-returns-3 : (t : ℕ) → expression-lts.Need-returns-3 (expression-calls t) (expression-at t) expression.Post expression-Inv-loop expression-μ-loop
-unfolding Reads moved-to
-expression-returns-3 t c = rw (c .enum-told2 .given .1) (right-refused expression-joins (expression-operator t (c .before .before .before .before .before)) (expression-now t (c .before .before .before .before .before .before .before .before .before)) _ _ (rw (c .enum-told2 .given .1, c .before .before .before .before .moved .ensures) at (c .before .before .before .term .ensures)))
-
--- the Term after it
-expression-right : (t : ℕ) (c : expression-lts.After-known-told2 (expression-calls t) (expression-at t) expression.Post expression-Inv-loop expression-μ-loop) → Got term-way (now (c .before .before .before .before .before .before .before .before .before .before .before .before .before .before .before .before .before .before .before .args .text)) (now (c .before .before .before .before .before .before .before .before .before .before .before .before .before .before .before .before .before .before .before .args .names)) (c .before .before .before .before .before .before .before .before .before .before .loop .table) (moved-to (c .before .before .before .before .before .before .before .before .before .before .loop .left) (c .before .before .before .before .before .before .before .before .before .look .result .end)) (c .before .before .before .before .before .before .before .before .before .before .before .before .before .before .before .before .before .before .before .args .allow) (now (c .before .before .before .before .before .before .before .before .before .before .before .before .before .before .before .before .before .before .before .args .names)) (c .before .before .before .before .term .last .1 .1 .0) (c .before .r .given .0 .0)
-expression-right t c = got term-way (c .before .r .given .1) (rw (c .before .before .before .before .before .moved .ensures) at (c .before .before .before .before .term .ensures))
+expression-returns-3 t c = right-refused (expression-next t (c .before .before .before .before .before .before .before)) expression-joins (c .before .before .before .before .before .before .if1 .left) _ _ (c .before .before .before .before .moved .ensures) (c .before .before .before .term .ensures) _ (expression-now t (c .before .before .before .before .before .before .before .before .before)) (c .enum-told2 .given .1)
 
 expression-operation-requires : (t : ℕ) → expression-lts.Need-operation-requires (expression-calls t) (expression-at t) expression.Post expression-Inv-loop expression-μ-loop
 expression-operation-requires t c κs = search needs
 
 expression-joined-requires : (t : ℕ) → expression-lts.Need-joined-requires (expression-calls t) (expression-at t) expression.Post expression-Inv-loop expression-μ-loop
-expression-joined-requires t c κs = counts-got (right-ready expression-joins (expression-operator t (c .before .before .before .before .before .before .before .before))) (expression-right t (c .before .before))
+expression-joined-requires t c κs = right-small (expression-next t (c .before .before .before .before .before .before .before .before .before .before)) expression-joins (c .before .before .before .before .before .before .before .before .before .if1 .left) _ _ (c .before .before .before .before .before .before .before .moved .ensures) (c .before .before .before .before .before .before .term .ensures) (c .before .before .before .r .given .1)
 
 expression-loop-less : (t : ℕ) → expression-lts.Need-loop-less (expression-calls t) (expression-at t) expression.Post expression-Inv-loop expression-μ-loop
-unfolding one-more moved-to
-expression-loop-less t c = rw (c .before .joined .ensures .0) (omega (arith, expression-right t (c .before .before .before .before) .passed, operator-after expression-joins (expression-operator t (c .before .before .before .before .before .before .before .before .before .before))))
+unfolding one-more
+expression-loop-less t c = rw (c .before .joined .ensures .0) (omega (arith, right-later (expression-next t (c .before .before .before .before .before .before .before .before .before .before .before .before)) expression-joins (c .before .before .before .before .before .before .before .before .before .before .before .if1 .left) _ _ (c .before .before .before .before .before .before .before .before .before .moved .ensures) (c .before .before .before .before .before .before .before .before .term .ensures) (c .before .before .before .before .before .r .given .1)))
 
 expression-loop-again : (t : ℕ) → expression-lts.Need-loop-again (expression-calls t) (expression-at t) expression.Post expression-Inv-loop expression-μ-loop
-expression-loop-again t c = record { count = omega (arith, c .before .joined .kept .0, c .before .before .before .before .before .before .before .before .term .kept .1 .1 .0, c .before .before .before .before .before .before .before .before .before .before .before .before .before .before .loop .inv .count); on = λ before w g. rw (c .before .joined .ensures .0, c .before .joined .ensures .1, toZ-ofZ (record { sfits = c .before .before .operation .ok }), c .before .before .operation .ensures, c .before .before .before .before .before .before .before .before .before .before .before .before .sign-of .ensures) (right-joined expression-joins (expression-operator t (c .before .before .before .before .before .before .before .before .before .before)) (c .before .before .before .before .before .before .before .before .before .before .before .before .before .before .loop .inv .on before w g) (expression-right t (c .before .before .before .before))) }
+expression-loop-again t c = rw (c .before .joined .ensures .0, c .before .joined .ensures .1, toZ-ofZ (record { sfits = c .before .before .operation .ok }), c .before .before .operation .ensures) (round-on expression-joins (expression-next t (c .before .before .before .before .before .before .before .before .before .before .before .before)) (c .before .before .before .before .before .before .before .before .before .before .before .if1 .left) (c .before .before .before .before .before .before .before .before .before .before .before .before .before .before .loop .inv) _ (c .before .before .before .before .before .before .before .before .before .moved .ensures) (c .before .before .before .before .before .before .before .before .term .ensures) (c .before .before .before .before .before .r .given .1) (c .before .before .before .before .before .before .before .before .term .kept .1 .1 .0))
 
 factor-look-requires : (t : ℕ) → factor-lts.Need-look-requires (factor-calls t) (factor-at t) factor.Post
 factor-look-requires t c κs = search needs
 
-factor-enum-known-kind : (t : ℕ) → factor-lts.Need-enum-known-kind (factor-calls t) (factor-at t) factor.Post
-factor-enum-known-kind t c = search needs
-
 factor-moved-requires : (t : ℕ) → factor-lts.Need-moved-requires (factor-calls t) (factor-at t) factor.Post
 factor-moved-requires t c κs = search needs
 
+factor-enum-known-kind : (t : ℕ) → factor-lts.Need-enum-known-kind (factor-calls t) (factor-at t) factor.Post
+factor-enum-known-kind t c = search needs
+
 factor-cast-emitted : (t : ℕ) → factor-lts.Need-cast-emitted (factor-calls t) (factor-at t) factor.Post
-factor-cast-emitted t c = count-fits (omega (arith, literal-bound _ (c .before .before .before .before .before .before .before .before .pre .1 .clean) (ready-seen (c .before .before .before .before .before .before .before .before .pre .1) (c .before .before .before .before .before .look .ensures)) _ (c .before .before .before .kind .given .1), c .before .before .before .before .before .before .before .before .pre .1 .literal))
+factor-cast-emitted t c = count-fits (omega (arith, literal-bound _ (c .before .before .before .before .before .before .before .before .pre .1 .clean) (ready-seen (c .before .before .before .before .before .before .before .before .pre .1) (c .before .before .before .before .before .look .ensures)) _ (c .before .before .kind .given .1), c .before .before .before .before .before .before .before .before .pre .1 .literal))
 
 factor-emitted-requires : (t : ℕ) → factor-lts.Need-emitted-requires (factor-calls t) (factor-at t) factor.Post
 unfolding moved-to
-factor-emitted-requires t c κs = rw (c .moved .ensures) (code-fits (c .before .before .before .before .before .before .before .before .pre .1))
+factor-emitted-requires t c κs = rw (c .before .before .before .before .moved .ensures) (code-fits (c .before .before .before .before .before .before .before .before .pre .1))
 
 factor-enum-told : (t : ℕ) → factor-lts.Need-enum-told (factor-calls t) (factor-at t) factor.Post
 factor-enum-told t c = search needs
 
-factor-moved-requires-2 : (t : ℕ) → factor-lts.Need-moved-requires-2 (factor-calls t) (factor-at t) factor.Post
-factor-moved-requires-2 t c κs = search needs
-
 factor-used-requires : (t : ℕ) → factor-lts.Need-used-requires (factor-calls t) (factor-at t) factor.Post
 unfolding moved-to
-factor-used-requires t c κs = rw (c .moved2 .ensures) (code-fits (c .before .before .before .before .before .before .before .pre .1), (c .before .before .before .before .before .before .before .pre .1 .declared, c .before .before .before .before .before .before .before .pre .1 .room))
+factor-used-requires t c κs = rw (c .before .before .before .moved .ensures) (code-fits (c .before .before .before .before .before .before .before .pre .1), (c .before .before .before .before .before .before .before .pre .1 .declared, c .before .before .before .before .before .before .before .pre .1 .room))
 
 factor-fixed-of-requires : (t : ℕ) → factor-lts.Need-fixed-of-requires (factor-calls t) (factor-at t) factor.Post
 factor-fixed-of-requires t c κs = search needs
 
 factor-returns : (t : ℕ) → factor-lts.Need-returns (factor-calls t) (factor-at t) factor.Post
 unfolding Reads
-factor-returns t c = let n = neither (c .before .before .before .look .result .kind) (c .before .before .match .keys3) in no-factor (ready-seen (c .before .before .before .before .before .before .pre .1) (c .before .before .before .look .ensures)) _ (n .0) (n .1) (λ z. c .if1 .taken (c .before .fixed-of .ensures ∙ z))
+factor-returns t c = let n = neither (c .before .before .before .before .look .result .kind) (c .before .before .match .keys3) in no-factor (ready-seen (c .before .before .before .before .before .before .before .pre .1) (c .before .before .before .before .look .ensures)) _ (n .0) (n .1) (λ z. c .if1 .taken (c .before .fixed-of .ensures ∙ z))
 
 factor-returns-2 : (t : ℕ) → factor-lts.Need-returns-2 (factor-calls t) (factor-at t) factor.Post
 unfolding Reads
-factor-returns-2 t c = bracket-too-deep (ready-seen (c .before .before .before .before .before .before .before .pre .1) (c .before .before .before .before .look .ensures)) _ (sym (c .before .before .fixed-of .ensures) ∙ c .before .if1 .left) (c .if2 .taken)
-
-factor-moved-requires-3 : (t : ℕ) → factor-lts.Need-moved-requires-3 (factor-calls t) (factor-at t) factor.Post
-factor-moved-requires-3 t c κs = search needs
+factor-returns-2 t c = bracket-too-deep (ready-seen (c .before .before .before .before .before .before .before .before .pre .1) (c .before .before .before .before .before .look .ensures)) _ (sym (c .before .before .fixed-of .ensures) ∙ c .before .if1 .left) (c .if2 .taken)
 
 factor-sub-bracket : (t : ℕ) → factor-lts.Need-sub-bracket (factor-calls t) (factor-at t) factor.Post
 factor-sub-bracket t c = search needs
 
 -- `(` stands next
-factor-open : (t : ℕ) (c : factor-lts.After-bracket-arg (factor-calls t) (factor-at t) factor.Post) → fixed-number (c .before .before .before .before .before .look .result .kind) ≡ 40
+factor-open : (t : ℕ) (c : factor-lts.After-bracket-arg (factor-calls t) (factor-at t) factor.Post) → fixed-number (c .before .before .before .before .before .before .look .result .kind) ≡ 40
 factor-open t c = sym (c .before .before .before .fixed-of .ensures) ∙ c .before .before .if1 .left
 
 factor-bracket-requires : (t : ℕ) → factor-lts.Need-bracket-requires (factor-calls t) (factor-at t) factor.Post
-factor-bracket-requires t c κs = (omega arith, rw (c .moved3 .ensures) (ready-next (c .before .before .before .before .before .before .before .before .before .pre .1) _ (omega arith) (fixed-after (c .before .before .before .before .before .before .before .before .before .pre .1) (ready-seen (c .before .before .before .before .before .before .before .before .before .pre .1) (c .before .before .before .before .before .before .look .ensures)) (factor-open t (c .before)) (omega arith))))
+factor-bracket-requires t c κs = (omega arith, rw (c .before .before .before .before .before .moved .ensures) (ready-next (c .before .before .before .before .before .before .before .before .before .pre .1) _ (omega arith) (fixed-after (c .before .before .before .before .before .before .before .before .before .pre .1) (ready-seen (c .before .before .before .before .before .before .before .before .before .pre .1) (c .before .before .before .before .before .before .look .ensures)) (factor-open t c) (omega arith))))
 
 factor-same-length : (t : ℕ) → factor-lts.Need-same-length (factor-calls t) (factor-at t) factor.Post
 factor-same-length t c = search needs
 
 factor-returns-3 : (t : ℕ) → factor-lts.Need-returns-3 (factor-calls t) (factor-at t) factor.Post
 unfolding Reads moved-to one-more
-factor-returns-3 t c = let p = literal-factor (ready-seen (c .before .before .before .before .before .before .before .before .before .before .pre .1) (c .before .before .before .before .before .before .before .look .ensures)) (c .before .before .before .before .before .before .before .before .before .before .args .allow) _ (c .before .before .before .before .before .kind .given .1) in
-    (S.literal (c .before .before .before .before .before .kind .given .0 .0), rw (c .before .emitted .ensures .0, c .before .before .moved .ensures) p, rw (c .before .emitted .ensures .0, c .before .emitted .ensures .1, toZ-ofZ (factor-cast-emitted t (c .before .before)), c .before .before .moved .ensures) (lays-literal _ _ (p .later) (c .before .before .before .before .before .before .before .before .before .before .pre .1 .declared)))
+factor-returns-3 t c = let p = literal-factor (ready-seen (c .before .before .before .before .before .before .before .before .before .before .pre .1) (c .before .before .before .before .before .before .before .look .ensures)) (c .before .before .before .before .before .before .before .before .before .before .args .allow) _ (c .before .before .before .before .kind .given .1) in
+    (S.literal (c .before .before .before .before .kind .given .0 .0), rw (c .before .emitted .ensures .0, c .before .before .before .before .before .before .moved .ensures) p, rw (c .before .emitted .ensures .0, c .before .emitted .ensures .1, toZ-ofZ (factor-cast-emitted t (c .before .before)), c .before .before .before .before .before .before .moved .ensures) (lays-literal _ _ (p .later) (c .before .before .before .before .before .before .before .before .before .before .pre .1 .declared)))
 
 factor-same-length-2 : (t : ℕ) → factor-lts.Need-same-length-2 (factor-calls t) (factor-at t) factor.Post
 factor-same-length-2 t c = search needs
 
 factor-returns-4 : (t : ℕ) → factor-lts.Need-returns-4 (factor-calls t) (factor-at t) factor.Post
 unfolding Reads moved-to one-more
-factor-returns-4 t c = let p = variable-factor (ready-seen (c .before .before .before .before .before .before .before .before .before .pre .1) (c .before .before .before .before .before .before .look .ensures)) (c .before .before .before .before .before .before .before .before .before .args .allow) (c .before .before .before .before .enum-told .given .1) in
-    (S.variable (name-at (now (c .before .before .before .before .before .before .before .before .before .args .text)) (c .before .before .before .before .before .before .look .result .place)), rw (c .before .used .ensures .0, c .before .before .moved2 .ensures, noted-beside _ _ _ .at) p, rw (c .before .used .ensures .0, c .before .used .ensures .1, c .before .before .moved2 .ensures) (lays-variable _ _ (p .later) (c .before .before .before .before .before .before .before .before .before .pre .1 .declared)))
+factor-returns-4 t c = let p = variable-factor (ready-seen (c .before .before .before .before .before .before .before .before .before .pre .1) (c .before .before .before .before .before .before .look .ensures)) (c .before .before .before .before .before .before .before .before .before .args .allow) (c .before .before .before .enum-told .given .1) in
+    (S.variable (name-at (now (c .before .before .before .before .before .before .before .before .before .args .text)) (c .before .before .before .before .before .before .look .result .place)), rw (c .before .used .ensures .0, c .before .before .before .before .before .moved .ensures, noted-beside _ _ _ .at) p, rw (c .before .used .ensures .0, c .before .used .ensures .1, c .before .before .before .before .before .moved .ensures) (lays-variable _ _ (p .later) (c .before .before .before .before .before .before .before .before .before .pre .1 .declared)))
 
 factor-same-length-3 : (t : ℕ) → factor-lts.Need-same-length-3 (factor-calls t) (factor-at t) factor.Post
 factor-same-length-3 t c = search needs
@@ -346,8 +335,8 @@ factor-same-length-3 t c = search needs
 factor-returns-5 : (t : ℕ) → factor-lts.Need-returns-5 (factor-calls t) (factor-at t) factor.Post
 unfolding moved-to
 factor-returns-5 t c = let s = ready-seen (c .before .before .before .before .before .before .before .before .before .before .before .pre .1) (c .before .before .before .before .before .before .before .before .look .ensures) in
-    let h = factor-open t (c .before .before .before) in
-    handed-on (bracket-leads s _ h (c .before .before .before .before .if2 .left)) (λ x v p. lead _ (omega (arith, fixed-after (c .before .before .before .before .before .before .before .before .before .before .before .pre .1) s h (omega arith) .later)) p) _ (rw (c .before .before .moved3 .ensures) at (c .before .bracket .ensures))
+    let h = factor-open t (c .before .before) in
+    handed-on (bracket-leads s _ h (c .before .before .before .if2 .left)) (λ x v p. lead _ (omega (arith, fixed-after (c .before .before .before .before .before .before .before .before .before .before .before .pre .1) s h (omega arith) .later)) p) _ (rw (c .before .before .before .before .before .before .before .moved .ensures) at (c .before .bracket .ensures))
 
 first-term-look-requires : (t : ℕ) → first-term-lts.Need-look-requires (first-term-calls t) (first-term-at t) first-term.Post
 first-term-look-requires t c κs = search needs
@@ -440,19 +429,19 @@ term-mul-of-requires t c κs = search needs
 term-same-length-2 : (t : ℕ) → term-lts.Need-same-length-2 (term-calls t) (term-at t) term.Post term-Inv-loop term-μ-loop
 term-same-length-2 t c = search needs
 
+-- the lexeme after it
+term-next : (t : ℕ) (c : term-lts.After-mul-of (term-calls t) (term-at t) term.Post term-Inv-loop term-μ-loop) → Next mul-number (sizes-of (c .before .before .before .before .before .before .before .before .before .before .before .pre .1)) (now (c .before .before .before .before .before .before .before .before .before .before .before .args .text)) (now (c .before .before .before .before .before .before .before .before .before .before .before .args .names)) (c .before .before .loop .left) (c .before .before .before .before .before .before .before .before .before .before .before .args .allow) (c .before .look .result) (c .mul-of .result)
+term-next t c = record { ready = ready-got (c .before .before .before .before .before .before .before .before .before .before .before .pre .1) (term-now t (c .before .before)); looks = c .before .look .ensures; numbered = c .mul-of .ensures }
+
 term-returns-2 : (t : ℕ) → term-lts.Need-returns-2 (term-calls t) (term-at t) term.Post term-Inv-loop term-μ-loop
 unfolding Reads
-term-returns-2 t c = let g = term-now t (c .before .before .before) in (g .what, term-whole _ (g .what) (g .passed) (ready-seen (ready-got (c .before .before .before .before .before .before .before .before .before .before .before .before .pre .1) g) (c .before .before .look .ensures)) (sym (c .before .mul-of .ensures) ∙ c .if1 .taken), g .laid)
+term-returns-2 t c = let g = term-now t (c .before .before .before) in let n = term-next t (c .before) in (g .what, term-whole _ (g .what) (g .passed) (next-seen n) (none-next n (c .if1 .taken)), g .laid)
 
 term-moved-requires : (t : ℕ) → term-lts.Need-moved-requires (term-calls t) (term-at t) term.Post term-Inv-loop term-μ-loop
 term-moved-requires t c κs = search needs
 
--- `*` or `/` stands next
-term-operator : (t : ℕ) (c : term-lts.After-factor-arg2 (term-calls t) (term-at t) term.Post term-Inv-loop term-μ-loop) → At-operator mul-number (sizes-of (c .before .before .before .before .before .before .before .before .before .before .before .before .before .pre .1)) (now (c .before .before .before .before .before .before .before .before .before .before .before .before .before .args .text)) (now (c .before .before .before .before .before .before .before .before .before .before .before .before .before .args .names)) (c .before .before .before .before .loop .left) (c .before .before .before .before .before .before .before .before .before .before .before .before .before .args .allow) (c .before .before .before .look .result)
-term-operator t c = record { ready = ready-got (c .before .before .before .before .before .before .before .before .before .before .before .before .before .pre .1) (term-now t (c .before .before .before .before)); looks = c .before .before .before .look .ensures; some = λ z. c .before .if1 .left (c .before .before .mul-of .ensures ∙ z) }
-
 term-factor-requires-2 : (t : ℕ) → term-lts.Need-factor-requires-2 (term-calls t) (term-at t) term.Post term-Inv-loop term-μ-loop
-term-factor-requires-2 t c κs = (omega arith, rw (c .moved .ensures) (right-ready term-joins (term-operator t (c .before))))
+term-factor-requires-2 t c κs = (omega arith, right-ready (term-next t (c .before .before .before)) term-joins (c .before .before .if1 .left) (c .moved .ensures))
 
 term-enum-known-r : (t : ℕ) → term-lts.Need-enum-known-r (term-calls t) (term-at t) term.Post term-Inv-loop term-μ-loop
 term-enum-known-r t c = search needs
@@ -464,25 +453,20 @@ term-same-length-3 : (t : ℕ) → term-lts.Need-same-length-3 (term-calls t) (t
 term-same-length-3 t c = search needs
 
 term-returns-3 : (t : ℕ) → term-lts.Need-returns-3 (term-calls t) (term-at t) term.Post term-Inv-loop term-μ-loop
-unfolding Reads moved-to
-term-returns-3 t c = rw (c .enum-told2 .given .1) (right-refused term-joins (term-operator t (c .before .before .before .before .before)) (term-now t (c .before .before .before .before .before .before .before .before .before)) _ _ (rw (c .enum-told2 .given .1, c .before .before .before .before .moved .ensures) at (c .before .before .before .factor2 .ensures)))
-
--- the Factor after it
-term-right : (t : ℕ) (c : term-lts.After-known-told2 (term-calls t) (term-at t) term.Post term-Inv-loop term-μ-loop) → Got factor-way (now (c .before .before .before .before .before .before .before .before .before .before .before .before .before .before .before .before .before .before .before .args .text)) (now (c .before .before .before .before .before .before .before .before .before .before .before .before .before .before .before .before .before .before .before .args .names)) (c .before .before .before .before .before .before .before .before .before .before .loop .table) (moved-to (c .before .before .before .before .before .before .before .before .before .before .loop .left) (c .before .before .before .before .before .before .before .before .before .look .result .end)) (c .before .before .before .before .before .before .before .before .before .before .before .before .before .before .before .before .before .before .before .args .allow) (now (c .before .before .before .before .before .before .before .before .before .before .before .before .before .before .before .before .before .before .before .args .names)) (c .before .before .before .before .factor2 .last .1 .1 .0) (c .before .r .given .0 .0)
-term-right t c = got factor-way (c .before .r .given .1) (rw (c .before .before .before .before .before .moved .ensures) at (c .before .before .before .before .factor2 .ensures))
+term-returns-3 t c = right-refused (term-next t (c .before .before .before .before .before .before .before)) term-joins (c .before .before .before .before .before .before .if1 .left) _ _ (c .before .before .before .before .moved .ensures) (c .before .before .before .factor2 .ensures) _ (term-now t (c .before .before .before .before .before .before .before .before .before)) (c .enum-told2 .given .1)
 
 term-operation-requires : (t : ℕ) → term-lts.Need-operation-requires (term-calls t) (term-at t) term.Post term-Inv-loop term-μ-loop
 term-operation-requires t c κs = search needs
 
 term-joined-requires : (t : ℕ) → term-lts.Need-joined-requires (term-calls t) (term-at t) term.Post term-Inv-loop term-μ-loop
-term-joined-requires t c κs = counts-got (right-ready term-joins (term-operator t (c .before .before .before .before .before .before .before .before))) (term-right t (c .before .before))
+term-joined-requires t c κs = right-small (term-next t (c .before .before .before .before .before .before .before .before .before .before)) term-joins (c .before .before .before .before .before .before .before .before .before .if1 .left) _ _ (c .before .before .before .before .before .before .before .moved .ensures) (c .before .before .before .before .before .before .factor2 .ensures) (c .before .before .before .r .given .1)
 
 term-loop-less : (t : ℕ) → term-lts.Need-loop-less (term-calls t) (term-at t) term.Post term-Inv-loop term-μ-loop
-unfolding one-more moved-to
-term-loop-less t c = rw (c .before .joined .ensures .0) (omega (arith, term-right t (c .before .before .before .before) .passed, operator-after term-joins (term-operator t (c .before .before .before .before .before .before .before .before .before .before))))
+unfolding one-more
+term-loop-less t c = rw (c .before .joined .ensures .0) (omega (arith, right-later (term-next t (c .before .before .before .before .before .before .before .before .before .before .before .before)) term-joins (c .before .before .before .before .before .before .before .before .before .before .before .if1 .left) _ _ (c .before .before .before .before .before .before .before .before .before .moved .ensures) (c .before .before .before .before .before .before .before .before .factor2 .ensures) (c .before .before .before .before .before .r .given .1)))
 
 term-loop-again : (t : ℕ) → term-lts.Need-loop-again (term-calls t) (term-at t) term.Post term-Inv-loop term-μ-loop
-term-loop-again t c = record { count = omega (arith, c .before .joined .kept .0, c .before .before .before .before .before .before .before .before .factor2 .kept .1 .1 .0, c .before .before .before .before .before .before .before .before .before .before .before .before .before .before .loop .inv .count); on = λ before w g. rw (c .before .joined .ensures .0, c .before .joined .ensures .1, toZ-ofZ (record { sfits = c .before .before .operation .ok }), c .before .before .operation .ensures, c .before .before .before .before .before .before .before .before .before .before .before .before .mul-of .ensures) (right-joined term-joins (term-operator t (c .before .before .before .before .before .before .before .before .before .before)) (c .before .before .before .before .before .before .before .before .before .before .before .before .before .before .loop .inv .on before w g) (term-right t (c .before .before .before .before))) }
+term-loop-again t c = rw (c .before .joined .ensures .0, c .before .joined .ensures .1, toZ-ofZ (record { sfits = c .before .before .operation .ok }), c .before .before .operation .ensures) (round-on term-joins (term-next t (c .before .before .before .before .before .before .before .before .before .before .before .before)) (c .before .before .before .before .before .before .before .before .before .before .before .if1 .left) (c .before .before .before .before .before .before .before .before .before .before .before .before .before .before .loop .inv) _ (c .before .before .before .before .before .before .before .before .before .moved .ensures) (c .before .before .before .before .before .before .before .before .factor2 .ensures) (c .before .before .before .before .before .r .given .1) (c .before .before .before .before .before .before .before .before .factor2 .kept .1 .1 .0))
 
 pub +bracket+expression+factor+first-term+term-spec : {M : Type 1} → statement M
 +bracket+expression+factor+first-term+term-spec =
@@ -523,17 +507,15 @@ pub +bracket+expression+factor+first-term+term-spec : {M : Type 1} → statement
     (λ t. factor-lts.spec (factor-calls t) (factor-at t)
     factor.Post
     (factor-look-requires t)
-    (factor-enum-known-kind t)
     (factor-moved-requires t)
+    (factor-enum-known-kind t)
     (factor-cast-emitted t)
     (factor-emitted-requires t)
     (factor-enum-told t)
-    (factor-moved-requires-2 t)
     (factor-used-requires t)
     (factor-fixed-of-requires t)
     (factor-returns t)
     (factor-returns-2 t)
-    (factor-moved-requires-3 t)
     (factor-sub-bracket t)
     (factor-bracket-requires t)
     (factor-same-length t)

@@ -1,6 +1,7 @@
 -- `compiler::expression::condition` meets its contract. Assumes nothing.
 use Prim.Native.Nat.{ℕ, _-_, _<_}
 use mathlib.Core.Path.{_≡_, refl, sym, _∙_}
+use native.Mathlib.Nat.{le-refl}
 use native.Mathlib.Omega.{arith}
 use borrow.Author.Needs.{needs}
 use denote.Ref.{now}
@@ -90,7 +91,7 @@ condition-inner : (t : ℕ) (c : condition-lts.After-known-told (condition-calls
 condition-inner t c = got condition-way (c .before .r .given .1) (rw (c .before .before .before .before .before .moved .ensures) at (c .before .before .before .before .condition .ensures))
 
 condition-emitted-requires : (t : ℕ) → condition-lts.Need-emitted-requires (condition-calls t) (condition-at t) condition.Post
-condition-emitted-requires t c κs = counts-got (ready-next (c .before .before .before .before .before .before .before .before .before .before .before .before .before .before .pre .1) _ (omega arith) (condition-after t (c .before .before .before .before .before .before .before))) (condition-inner t (c .before)) .0
+condition-emitted-requires t c κs = counts-got (ready-next (c .before .before .before .before .before .before .before .before .before .before .before .before .before .before .pre .1) _ (le-refl _) (condition-after t (c .before .before .before .before .before .before .before))) (condition-inner t (c .before)) .0
 
 condition-same-length-3 : (t : ℕ) → condition-lts.Need-same-length-3 (condition-calls t) (condition-at t) condition.Post
 condition-same-length-3 t c = search needs

@@ -1,13 +1,13 @@
 -- `compiler::expression::comparison` meets its contract. Assumes nothing.
-use mathlib.Core.Path.{refl, sym, _∙_}
+use mathlib.Core.Path.{refl}
 use native.Mathlib.Omega.{arith}
 use borrow.Author.Needs.{needs}
 use mir.Facts.{toZ-ofZ}
 use denote.Ref.{now}
-use Rattle.compiler.specs.Steps.{moved-to, rel-number}
+use Rattle.compiler.specs.Steps.{rel-number}
 use Rattle.compiler.specs.Walks.{Reads}
 use Rattle.compiler.proofs.Passes.{expression-way, comparison-way, no-relation, comparison-refused}
-use Rattle.compiler.proofs.Replies.{Got, At-operator, got, done, ready-seen, sizes-of, ready-got, counts-got, comparison-joins, right-ready, right-refused, right-joined}
+use Rattle.compiler.proofs.Replies.{Got, Next, got, done, sizes-of, ready-got, comparison-joins, next-seen, none-next, right-ready, right-refused, right-small, right-joined}
 use Rattle.compiler.proofs.expression.comparison.Statement.{statement}
 use Rattle.compiler.proofs.expression.comparison.Tie as tie
 
@@ -40,19 +40,19 @@ rel-of-requires c κs = search needs
 same-length-2 : tie.Need-same-length-2
 same-length-2 c = search needs
 
+-- the lexeme after it
+next : (c : tie.After-rel-of) → Next rel-number (sizes-of (c .before .before .before .before .before .before .before .before .before .before .pre)) (now (c .before .before .before .before .before .before .before .before .before .before .args .text)) (now (c .before .before .before .before .before .before .before .before .before .before .args .names)) (c .before .before .before .left .given .0 .0) (c .before .before .before .before .before .before .before .before .before .before .args .allow) (c .before .look .result) (c .rel-of .result)
+next c = record { ready = ready-got (c .before .before .before .before .before .before .before .before .before .before .pre) (left (c .before .before)); looks = c .before .look .ensures; numbered = c .rel-of .ensures }
+
 returns-2 : tie.Need-returns-2
 unfolding Reads
-returns-2 c = let g = left (c .before .before .before) in no-relation _ (g .what) (g .passed) (ready-seen (ready-got (c .before .before .before .before .before .before .before .before .before .before .before .pre) g) (c .before .before .look .ensures)) (sym (c .before .rel-of .ensures) ∙ c .if1 .taken)
+returns-2 c = let g = left (c .before .before .before) in let n = next (c .before) in no-relation _ (g .what) (g .passed) (next-seen n) (none-next n (c .if1 .taken))
 
 moved-requires : tie.Need-moved-requires
 moved-requires c κs = search needs
 
--- a relation stands next
-operator : (c : tie.After-expression-arg2) → At-operator rel-number (sizes-of (c .before .before .before .before .before .before .before .before .before .before .before .before .pre)) (now (c .before .before .before .before .before .before .before .before .before .before .before .before .args .text)) (now (c .before .before .before .before .before .before .before .before .before .before .before .before .args .names)) (c .before .before .before .before .before .left .given .0 .0) (c .before .before .before .before .before .before .before .before .before .before .before .before .args .allow) (c .before .before .before .look .result)
-operator c = record { ready = ready-got (c .before .before .before .before .before .before .before .before .before .before .before .before .pre) (left (c .before .before .before .before)); looks = c .before .before .before .look .ensures; some = λ z. c .before .if1 .left (c .before .before .rel-of .ensures ∙ z) }
-
 expression-requires-2 : tie.Need-expression-requires-2
-expression-requires-2 c κs = rw (c .moved .ensures) (right-ready comparison-joins (operator (c .before)))
+expression-requires-2 c κs = right-ready (next (c .before .before .before)) comparison-joins (c .before .before .if1 .left) (c .moved .ensures)
 
 enum-known-right : tie.Need-enum-known-right
 enum-known-right c = search needs
@@ -64,24 +64,19 @@ same-length-3 : tie.Need-same-length-3
 same-length-3 c = search needs
 
 returns-3 : tie.Need-returns-3
-unfolding Reads moved-to
-returns-3 c = rw (c .enum-told2 .given .1) (right-refused comparison-joins (operator (c .before .before .before .before .before)) (left (c .before .before .before .before .before .before .before .before .before)) _ _ (rw (c .enum-told2 .given .1, c .before .before .before .before .moved .ensures) at (c .before .before .before .expression2 .ensures)))
+returns-3 c = right-refused (next (c .before .before .before .before .before .before .before)) comparison-joins (c .before .before .before .before .before .before .if1 .left) _ _ (c .before .before .before .before .moved .ensures) (c .before .before .before .expression2 .ensures) _ (left (c .before .before .before .before .before .before .before .before .before)) (c .enum-told2 .given .1)
 
 operation-requires : tie.Need-operation-requires
 operation-requires c κs = search needs
 
--- the right side
-right : (c : tie.After-known-told2) → Got expression-way (now (c .before .before .before .before .before .before .before .before .before .before .before .before .before .before .before .before .before .before .args .text)) (now (c .before .before .before .before .before .before .before .before .before .before .before .before .before .before .before .before .before .before .args .names)) (c .before .before .before .before .before .before .before .before .before .before .before .before .before .before .expression .last .1 .1 .0) (moved-to (c .before .before .before .before .before .before .before .before .before .before .before .left .given .0 .0) (c .before .before .before .before .before .before .before .before .before .look .result .end)) (c .before .before .before .before .before .before .before .before .before .before .before .before .before .before .before .before .before .before .args .allow) (now (c .before .before .before .before .before .before .before .before .before .before .before .before .before .before .before .before .before .before .args .names)) (c .before .before .before .before .expression2 .last .1 .1 .0) (c .before .right .given .0 .0)
-right c = got expression-way (c .before .right .given .1) (rw (c .before .before .before .before .before .moved .ensures) at (c .before .before .before .before .expression2 .ensures))
-
 joined-requires : tie.Need-joined-requires
-joined-requires c κs = counts-got (right-ready comparison-joins (operator (c .before .before .before .before .before .before .before .before))) (right (c .before .before))
+joined-requires c κs = right-small (next (c .before .before .before .before .before .before .before .before .before .before)) comparison-joins (c .before .before .before .before .before .before .before .before .before .if1 .left) _ _ (c .before .before .before .before .before .before .before .moved .ensures) (c .before .before .before .before .before .before .expression2 .ensures) (c .before .before .before .right .given .1)
 
 same-length-4 : tie.Need-same-length-4
 same-length-4 c = omega (arith, c .before .joined .kept .0, c .before .before .before .before .before .before .before .before .expression2 .kept .1 .1 .0, c .before .before .before .before .before .before .before .before .before .before .before .before .before .before .before .before .before .before .expression .kept .1 .1 .0)
 
 returns-4 : tie.Need-returns-4
-returns-4 c = done comparison-way refl (rw (c .before .joined .ensures .0, c .before .joined .ensures .1, toZ-ofZ (record { sfits = c .before .before .operation .ok }), c .before .before .operation .ensures, c .before .before .before .before .before .before .before .before .before .before .before .before .rel-of .ensures) (right-joined comparison-joins (operator (c .before .before .before .before .before .before .before .before .before .before)) (left (c .before .before .before .before .before .before .before .before .before .before .before .before .before .before)) (right (c .before .before .before .before))))
+returns-4 c = done comparison-way refl (rw (c .before .joined .ensures .0, c .before .joined .ensures .1, toZ-ofZ (record { sfits = c .before .before .operation .ok }), c .before .before .operation .ensures) (right-joined (next (c .before .before .before .before .before .before .before .before .before .before .before .before)) comparison-joins (c .before .before .before .before .before .before .before .before .before .before .before .if1 .left) _ _ (c .before .before .before .before .before .before .before .before .before .moved .ensures) (c .before .before .before .before .before .before .before .before .expression2 .ensures) (c .before .before .before .before .before .right .given .1) (left (c .before .before .before .before .before .before .before .before .before .before .before .before .before .before))))
 
 pub comparison-spec : {M : Type 1} → statement M
 comparison-spec =
