@@ -1,4 +1,5 @@
 -- `stack::two_sided` meets its contract. Assumes nothing.
+use mathlib.Core.Path.{refl}
 use borrow.Author.Needs.{needs}
 use denote.Ref.{now}
 use Prim.Native.Nat.{_-_}
@@ -47,7 +48,7 @@ returns-2 c = λ lent room before g.
     let cells = now (c .before .before .before .before .before .before .before .args .stack) in
     let d = c .before .before .before .before .before .before .before .args .s .depth in
     also (c .before .put .ensures lent room before g)
-    (rw (c .before .before .calculate .ensures, toZ-ofZ {w = w32} {z = getD cells (d - 2) (pos 0)} (record { sfits = c .before .before .before .before .before .a .given }), toZ-ofZ {w = w32} {z = getD cells (d - 1) (pos 0)} (record { sfits = c .before .before .before .before .b .given }), live-two d cells (c .before .before .before .before .before .before .if1 .left)))
+    (rw (c .before .before .calculate .ensures, toZ-ofZ {w = w32} {z = getD cells (d - 2) (pos 0)} (record { sfits = c .before .before .before .before .before .a .given }), toZ-ofZ {w = w32} {z = getD cells (d - 1) (pos 0)} (record { sfits = c .before .before .before .before .b .given }), live-two d cells (c .before .before .before .before .before .before .if1 .left)) refl)
 
 pub two-sided-spec : {M : Type 1} → statement M
 two-sided-spec =

@@ -1,12 +1,12 @@
 -- `step::step` meets its contract: what was decoded is what the rule does next. Assumes nothing.
 use mathlib.Core.Path.{_≡_, refl}
 use mathlib.Core.List.{List}
-use Prim.Native.Nat.{ℕ, _/_}
+use Prim.Native.Nat.{ℕ, _*_, _/_}
 use borrow.Author.Needs.{needs}
 use borrow.Author.Tests.{lt-ltb, le-ltb}
 use denote.Ref.{now}
-use lib.IntN.{ℤ}
-use lib.ListN.{length}
+use lib.IntN.{ℤ, pos}
+use lib.ListN.{length, getD}
 use mir.Syntax.{w32}
 use mir.Val.{SFits}
 use mir.Facts.{toZ-ofZ}
@@ -28,7 +28,7 @@ follows : (c : tie.After-decode) (o : Op) → c .decode .result ≡ o → {cells
 unfolding M.step M.fetched M.pairs
 follows c o e d before g =
     let a = c .before .before .before .before .before .before .args in
-    let decoded = rw (toZ-ofZ {w = w32} (record { sfits = c .before .before .decode-arg .given }), toZ-ofZ {w = w32} (record { sfits = c .before .decode-arg2 .given })) at (c .decode .ensures) in
+    let decoded = rw (toZ-ofZ {w = w32} {z = getD (now (a .table)) (a .s .place * 2) (pos 0)} (record { sfits = c .before .before .decode-arg .given }), toZ-ofZ {w = w32} (record { sfits = c .before .decode-arg2 .given })) at (c .decode .ensures) in
     also (d before g) (rw (lt-ltb (a .s .place) (length (now (a .table)) / 2) (c .before .before .before .if1 .left), ← decoded, e))
 
 pub step-spec : {M : Type 1} → statement M
