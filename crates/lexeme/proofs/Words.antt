@@ -61,22 +61,26 @@ unfolding value
 value-grows n [] = le-refl n
 value-grows n (b ∷ w) = omega (arith, value-grows (n * 10 + (b - 48)) w)
 
--- the keyword k, of those that are left, is the word w, or is not
-module _ (k : Keyword) (ks : List Keyword) (w : List ℕ) (p : ℕ) {r : Bool} (tested : r ≡ same w (k .spelled)) where
-  abbrev after-test : Bool → Kind
-  after-test t = kind-of (elim t [ true ↦ fixed (k .means) | false ↦ capital-word ks p w ])
+-- of the keywords ks, those before the rest are not the word
+pub record Left (rest ks : List Keyword) (w : List ℕ) : Type 0 where
+  pub same-kind : (p : ℕ) → kind-of (capital-word rest p w) ≡ kind-of (capital-word ks p w)
 
-  pub keyword-hit : r ≡ true → Fixed (code-of (k .means)) ≡ kind-of (capital-word (k ∷ ks) p w)
+pub all-left : (ks : List Keyword) {w : List ℕ} → Left ks ks w
+all-left ks = record { same-kind = λ p. refl }
+
+-- a word after the test of a keyword
+abbrev after-keyword : Keyword → List Keyword → List ℕ → ℕ → Bool → Kind
+after-keyword k rest w p t = kind-of (elim t [ true ↦ fixed (k .means) | false ↦ capital-word rest p w ])
+
+-- the first keyword that is left is the word, or is not
+module _ {k : Keyword} {rest ks : List Keyword} {w : List ℕ} (left : Left (k ∷ rest) ks w) {r : Bool} (tested : r ≡ same w (k .spelled)) where
+  pub keyword-hit : r ≡ true → (p : ℕ) → Fixed (code-of (k .means)) ≡ kind-of (capital-word ks p w)
   unfolding capital-word kind-of
-  keyword-hit h = ap after-test (sym h ∙ tested)
+  keyword-hit h p = ap (after-keyword k rest w p) (sym h ∙ tested) ∙ left .same-kind p
 
-  pub keyword-miss : r ≡ false → kind-of (capital-word ks p w) ≡ kind-of (capital-word (k ∷ ks) p w)
+  pub keyword-miss : r ≡ false → Left rest ks w
   unfolding capital-word
-  keyword-miss h = ap after-test (sym h ∙ tested)
-
--- the first n of the keywords ks are not the word
-abbrev pub Left : List Keyword → ℕ → ℕ → List ℕ → Type 0
-Left ks n p w = kind-of (capital-word (drop n ks) p w) ≡ kind-of (capital-word ks p w)
+  keyword-miss h = record { same-kind = λ p. ap (after-keyword k rest w p) (sym h ∙ tested) ∙ left .same-kind p }
 
 pub starts-empty : (w : List ℕ) → length w ≡ 0 → false ≡ starts-small w
 unfolding starts-small

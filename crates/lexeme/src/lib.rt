@@ -50,7 +50,7 @@ pub fn too_long(text: &[u8]) -> bool
     Limits::TEXT < text.len()
 }
 
-fn is_separator(b: u8) -> bool
+pub fn is_separator(b: u8) -> bool
     ensures { λ r. ⌜ r ≡ separator b ⌝ }
 {
     match b {
@@ -68,7 +68,7 @@ fn is_letter(b: u8) -> bool
     }
 }
 
-fn is_digit(b: u8) -> bool
+pub fn is_digit(b: u8) -> bool
     ensures { λ r. ⌜ r ≡ digit b ⌝ }
 {
     match b {

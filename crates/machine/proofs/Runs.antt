@@ -20,7 +20,7 @@ module _ (lent : Lent) (n at : ℕ) (st : List ℤ) (o : Outside) where
 
   pub run-stops : {e : ℕ} → stop e ≡ step lent at st o → run lent (suc n) at st o ≡ record { ending = e; left = n; outside = o }
   unfolding run
-  run-stops e = rw (← e, run)
+  run-stops e = rw (← e, run) refl
 
 -- the room is what was printed, and past it what it was
 pub room-is : {lent : Lent} {before : List ℕ} {s : State} {cells : List ℤ} {room : List ℕ} → Good lent before s cells room → room ≡ room-after (take (s .printed) room) before

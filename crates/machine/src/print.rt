@@ -2,11 +2,9 @@
 ghost use mathlib.Core.Path.{_≡_};
 ghost use mathlib.Core.List.{List, _++_};
 ghost use lib.IntN.{ℤ};
-ghost use lib.ListN.{length, drop};
+ghost use lib.ListN.{length};
 ghost use lib.Seq.{paste};
 ghost use Prim.Native.Nat.{ℕ, _+_, _≤_};
-ghost use Rattle.lexeme.specs.Bytes.{no-quote};
-ghost use Rattle.lexeme.specs.Bytes as B;
 ghost use Rattle.machine.specs.Machine.{Lent, Outside, does, printed, written, quoted, string-from};
 ghost use Rattle.machine.specs.Instructions.{print-int};
 ghost use Rattle.machine.specs.Coded.{Ready, Printing, Prints, Stepped};
@@ -15,6 +13,7 @@ use super::endings;
 use super::state::Move;
 use super::state::State;
 use super::state::moved;
+use lexeme::Such;
 
 // Bytes at a place with room for them.
 fn copy(out: &mut [u8], at: usize, bytes: &[u8])
@@ -48,25 +47,11 @@ fn write(s: State, bytes: &[u8], more: &[u8], out: &mut [u8]) -> Move
     })
 }
 
-// The place of the next quote, or the end where there is none.
-fn closing_quote(text: &[u8], from: usize) -> usize
-    ensures { λ r. ⌜ r ≡ from + length (B.run no-quote (drop from (now (text .entry)))) ⌝ }
-{
-    let mut i = from;
-    while i < text.len() {
-        if text[i] == 34 {
-            return i;
-        }
-        i += 1;
-    }
-    i
-}
-
 pub fn print_str(s: State, text: &[u8], q: usize, more: &[u8], out: &mut [u8]) -> Move
     requires { ⌜ Printing s (now out) ⌝ }
     ensures { λ r. ⌜ ((lent : Lent) → Prints lent (λ (at : ℕ) (st : List ℤ) (o : Outside). quoted lent at (now (more .entry)) st o (string-from (now (text .entry)) q)) s (now (out .entry)) r (now (out .exit))) ⌝ }
 {
-    let end = closing_quote(text, q);
+    let end = lexeme::run_end(text, q, Such::NoQuote);
     if text.len() <= end {
         return Move::Stop(endings::BAD_CODE);
     }

@@ -142,7 +142,7 @@ module _ (s : List ℕ) (ends : run other s ≡ []) where
   pub left-minus : (m : ℕ) → left m Minus s ≡ []
   unfolding left within word-of decimal
   left-minus zero = refl
-  left-minus (suc m) = rw ends
+  left-minus (suc m) = rw ends refl
 
   pub left-none : (m n : ℕ) (negative : Bool) → number negative n ≡ none → left m (Number negative n) s ≡ []
   unfolding left within word-of all value

@@ -1,7 +1,6 @@
 // The readings of an input that comes in chunks of any length.
 ghost use mathlib.Core.Path.{_≡_};
 ghost use mathlib.Core.Bool.{true};
-ghost use Rattle.lexeme.specs.Bytes.{separator, digit};
 ghost use Rattle.readings.specs.Readings.{in-range, signed, number};
 ghost use Rattle.readings.specs.Steps.{digit-more, word-more, stored, ended, step, steps, start, finished};
 
@@ -17,21 +16,6 @@ pub enum Phase {
 pub struct Reader {
     pub phase: Phase,
     pub count: usize,
-}
-
-fn is_separator(b: u8) -> bool
-    ensures { λ r. ⌜ r ≡ separator b ⌝ }
-{
-    match b {
-        b' ' | 9 | 10 | 13 => true,
-        _ => false,
-    }
-}
-
-fn is_digit(b: u8) -> bool
-    ensures { λ r. ⌜ r ≡ digit b ⌝ }
-{
-    b'0' <= b && b <= b'9'
 }
 
 fn is_in_range(negative: bool, n: u64) -> bool
@@ -56,7 +40,7 @@ fn signed(negative: bool, n: u64) -> i32
 fn digit_more(negative: bool, n: u32, b: u8) -> Phase
     ensures { λ r. ⌜ r ≡ digit-more negative n b ⌝ }
 {
-    if !is_digit(b) {
+    if !lexeme::is_digit(b) {
         return Phase::Over;
     }
     let m = n as u64 * 10 + (b - 48) as u64;
@@ -124,7 +108,7 @@ fn end_word(r: Reader, readings: &mut [i32]) -> Reader
 fn take_byte(r: Reader, b: u8, readings: &mut [i32]) -> Reader
     ensures { λ e. ⌜ record { reader = e; numbers = now (readings .exit) } ≡ step (record { reader = r; numbers = now (readings .entry) }) b ⌝ }
 {
-    if is_separator(b) {
+    if lexeme::is_separator(b) {
         return end_word(r, readings);
     }
     let phase = r.phase;

@@ -125,66 +125,24 @@ module _ {read : List Lexeme} {d : ℕ} where
 
   pub by-lit : (l : Lexeme) {f : ℕ → State} {t : State} → ((n : ℕ) → Good read d (f n) (lit n)) → Good read d t l → Good read d (on-lit l f t) l
   unfolding on-lit
-  by-lit (lit n) h g = h n
-  by-lit (name x) h g = g
-  by-lit (class x) h g = g
-  by-lit (string q) h g = g
-  by-lit (sign s) h g = g
-  by-lit (mul o) h g = g
-  by-lit (rel r) h g = g
-  by-lit (fixed v) h g = g
+  by-lit l h = elim l [ lit n ↦ λ g. h n | name x ↦ λ g. g | class x ↦ λ g. g | string q ↦ λ g. g | sign s ↦ λ g. g | mul o ↦ λ g. g | rel r ↦ λ g. g | fixed v ↦ λ g. g ]
 
   pub by-name : (l : Lexeme) {f : Name → State} {t : State} → ((x : Name) → Good read d (f x) (name x)) → Good read d t l → Good read d (on-name l f t) l
   unfolding on-name
-  by-name (lit n) h g = g
-  by-name (name x) h g = h x
-  by-name (class x) h g = g
-  by-name (string q) h g = g
-  by-name (sign s) h g = g
-  by-name (mul o) h g = g
-  by-name (rel r) h g = g
-  by-name (fixed v) h g = g
+  by-name l h = elim l [ lit n ↦ λ g. g | name x ↦ λ g. h x | class x ↦ λ g. g | string q ↦ λ g. g | sign s ↦ λ g. g | mul o ↦ λ g. g | rel r ↦ λ g. g | fixed v ↦ λ g. g ]
 
   pub by-string : (l : Lexeme) {f : Quoted → State} {t : State} → ((q : Quoted) → Good read d (f q) (string q)) → Good read d t l → Good read d (on-string l f t) l
   unfolding on-string
-  by-string (lit n) h g = g
-  by-string (name x) h g = g
-  by-string (class x) h g = g
-  by-string (string q) h g = h q
-  by-string (sign s) h g = g
-  by-string (mul o) h g = g
-  by-string (rel r) h g = g
-  by-string (fixed v) h g = g
+  by-string l h = elim l [ lit n ↦ λ g. g | name x ↦ λ g. g | class x ↦ λ g. g | string q ↦ λ g. h q | sign s ↦ λ g. g | mul o ↦ λ g. g | rel r ↦ λ g. g | fixed v ↦ λ g. g ]
 
   pub by-sign : (l : Lexeme) {f : Sign → State} {t : State} → ((s : Sign) → Good read d (f s) (sign s)) → Good read d t l → Good read d (on-sign l f t) l
   unfolding on-sign
-  by-sign (lit n) h g = g
-  by-sign (name x) h g = g
-  by-sign (class x) h g = g
-  by-sign (string q) h g = g
-  by-sign (sign s) h g = h s
-  by-sign (mul o) h g = g
-  by-sign (rel r) h g = g
-  by-sign (fixed v) h g = g
+  by-sign l h = elim l [ lit n ↦ λ g. g | name x ↦ λ g. g | class x ↦ λ g. g | string q ↦ λ g. g | sign s ↦ λ g. h s | mul o ↦ λ g. g | rel r ↦ λ g. g | fixed v ↦ λ g. g ]
 
   pub by-mul : (l : Lexeme) {f : Mul → State} {t : State} → ((o : Mul) → Good read d (f o) (mul o)) → Good read d t l → Good read d (on-mul l f t) l
   unfolding on-mul
-  by-mul (lit n) h g = g
-  by-mul (name x) h g = g
-  by-mul (class x) h g = g
-  by-mul (string q) h g = g
-  by-mul (sign s) h g = g
-  by-mul (mul o) h g = h o
-  by-mul (rel r) h g = g
-  by-mul (fixed v) h g = g
+  by-mul l h = elim l [ lit n ↦ λ g. g | name x ↦ λ g. g | class x ↦ λ g. g | string q ↦ λ g. g | sign s ↦ λ g. g | mul o ↦ λ g. h o | rel r ↦ λ g. g | fixed v ↦ λ g. g ]
 
   pub by-rel : (l : Lexeme) {f : Rel → State} {t : State} → ((r : Rel) → Good read d (f r) (rel r)) → Good read d t l → Good read d (on-rel l f t) l
   unfolding on-rel
-  by-rel (lit n) h g = g
-  by-rel (name x) h g = g
-  by-rel (class x) h g = g
-  by-rel (string q) h g = g
-  by-rel (sign s) h g = g
-  by-rel (mul o) h g = g
-  by-rel (rel r) h g = h r
-  by-rel (fixed v) h g = g
+  by-rel l h = elim l [ lit n ↦ λ g. g | name x ↦ λ g. g | class x ↦ λ g. g | string q ↦ λ g. g | sign s ↦ λ g. g | mul o ↦ λ g. g | rel r ↦ λ g. h r | fixed v ↦ λ g. g ]

@@ -1,4 +1,5 @@
 -- `lexeme::is_such` meets its contract. Assumes nothing.
+use mathlib.Core.Path.{refl}
 use Rattle.lexeme.specs.Bytes.{letter-or-digit, no-quote}
 use Rattle.lexeme.specs.Coded.{such}
 use borrow.Author.Needs.{needs}
@@ -57,7 +58,7 @@ returns-5 c = rw (c .before .enum-told4 .given .1) (c .is-digit2 .ensures)
 
 returns-6 : tie.Need-returns-6
 unfolding such letter-or-digit no-quote
-returns-6 c = rw (c .enum-told5 .given .1)
+returns-6 c = rw (c .enum-told5 .given .1) refl
 
 pub is-such-spec : {M : Type 1} → statement M
 is-such-spec =

@@ -1,5 +1,5 @@
 -- `arith::calculate` meets its contract, an operator at a time. Assumes nothing.
-use mathlib.Core.Path.{_∙_}
+use mathlib.Core.Path.{refl, _∙_}
 use borrow.Author.Needs.{needs}
 use mir.Facts.{toZ-ofZ}
 use mir.Syntax.{w32}
@@ -86,7 +86,7 @@ returns-4 c = rw (c .before .enum-told3 .given .1) (c .in-range3 .ensures ∙ rw
 
 returns-5 : tie.Need-returns-5
 unfolding calculate
-returns-5 c = rw (c .before .before .enum-told4 .given .1, false-not (c .before .before .before .before .args .b) (c .before .before .before .before .fits .b) (c .before .if1 .left)) (c .in-range4 .ensures ∙ rw (back (c .before .before .before .before .fits .a), back (c .before .before .before .before .fits .b), toZ-ofZ (wide-quot (c .before .before .before .before .fits .a) (c .before .before .before .before .fits .b))))
+returns-5 c = rw (c .before .before .enum-told4 .given .1, false-not (c .before .before .before .before .args .b) (c .before .before .before .before .fits .b) (c .before .if1 .left)) (c .in-range4 .ensures ∙ rw (back (c .before .before .before .before .fits .a), back (c .before .before .before .before .fits .b), toZ-ofZ (wide-quot (c .before .before .before .before .fits .a) (c .before .before .before .before .fits .b))) refl)
 
 returns-6 : tie.Need-returns-6
 unfolding calculate

@@ -1,18 +1,19 @@
 -- `print::print_str` meets its contract. Assumes nothing.
 use borrow.Author.Needs.{needs}
 use denote.Ref.{now}
+use Rattle.lexeme.specs.Coded.{such}
 use Rattle.machine.specs.Machine.{quoted}
 use Rattle.machine.proofs.Steps.{stops, also}
 use Rattle.machine.proofs.Strings.{no-string, the-string}
 use Rattle.machine.proofs.print.print_str.Statement.{statement}
 use Rattle.machine.proofs.print.print_str.Tie as tie
 
-closing-quote-requires : tie.Need-closing-quote-requires
-closing-quote-requires c κs = search needs
+run-end-requires : tie.Need-run-end-requires
+run-end-requires c κs = search needs
 
 returns : tie.Need-returns
-unfolding quoted
-returns c = λ lent cells before g. stops g _ 8 (rw (← no-string (now (c .before .before .before .before .before .args .text)) (c .before .before .before .before .before .args .q) (rw (c .before .closing-quote .ensures) at (c .if1 .taken))))
+unfolding quoted such
+returns c = λ lent cells before g. stops g _ 8 (rw (← no-string (now (c .before .before .before .before .before .args .text)) (c .before .before .before .before .before .args .q) (c .before .run-end .result) (c .before .run-end .ensures) (c .if1 .taken)))
 
 sub-write : tie.Need-sub-write
 sub-write c = search needs
@@ -30,14 +31,14 @@ same-length : tie.Need-same-length
 same-length c = search needs
 
 returns-2 : tie.Need-returns-2
-unfolding quoted
-returns-2 c = λ lent cells before g. also (c .before .before .write .ensures lent cells before g) (rw (c .before .before .before .before .before .before .closing-quote .ensures, ← the-string (now (c .before .before .before .before .before .before .before .before .before .before .args .text)) (c .before .before .before .before .before .before .before .before .before .before .args .q) (rw (c .before .before .before .before .before .before .closing-quote .ensures) at (c .before .before .before .before .before .if1 .left))))
+unfolding quoted such
+returns-2 c = λ lent cells before g. also (c .before .before .write .ensures lent cells before g) (rw (← the-string (now (c .before .before .before .before .before .before .before .before .before .before .args .text)) (c .before .before .before .before .before .before .before .before .before .before .args .q) (c .before .before .before .before .before .before .run-end .result) (c .before .before .before .before .before .before .run-end .ensures) (c .before .before .before .before .before .if1 .left)))
 
 pub print-str-spec : {M : Type 1} → statement M
 print-str-spec =
     tie.close
     (tie.spec
-    closing-quote-requires
+    run-end-requires
     returns
     sub-write
     part-write-start

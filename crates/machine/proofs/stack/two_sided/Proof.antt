@@ -1,4 +1,5 @@
 -- `stack::two_sided` meets its contract. Assumes nothing.
+use mathlib.Core.Path.{_≡_}
 use borrow.Author.Needs.{needs}
 use denote.Ref.{now}
 use Prim.Native.Nat.{_-_}
@@ -6,9 +7,10 @@ use lib.IntN.{pos}
 use lib.ListN.{getD}
 use mir.Syntax.{w32}
 use mir.Facts.{toZ-ofZ}
+use Rattle.machine.specs.Numbers.{calculate}
 use Rattle.machine.specs.Instructions.{two-sided}
 use Rattle.machine.specs.Machine.{does}
-use Rattle.machine.specs.Coded.{as-two-sided}
+use Rattle.machine.specs.Coded.{as-result, as-two-sided}
 use Rattle.machine.proofs.Cells.{live-two}
 use Rattle.machine.proofs.Steps.{stops, also, too-few}
 use Rattle.machine.proofs.stack.two_sided.Statement.{statement}
@@ -46,8 +48,10 @@ unfolding does
 returns-2 c = λ lent room before g.
     let cells = now (c .before .before .before .before .before .before .before .args .stack) in
     let d = c .before .before .before .before .before .before .before .args .s .depth in
-    also (c .before .put .ensures lent room before g)
-    (rw (c .before .before .calculate .ensures, toZ-ofZ {w = w32} {z = getD cells (d - 2) (pos 0)} (record { sfits = c .before .before .before .before .before .a .given }), toZ-ofZ {w = w32} {z = getD cells (d - 1) (pos 0)} (record { sfits = c .before .before .before .before .b .given }), live-two d cells (c .before .before .before .before .before .before .if1 .left)))
+    let x = getD cells (d - 2) (pos 0) in
+    let y = getD cells (d - 1) (pos 0) in
+    let calculated : as-result (c .before .before .calculate .result) ≡ calculate (as-two-sided (c .before .before .before .before .before .before .before .args .k)) x y = rw (toZ-ofZ {w = w32} {z = x} (record { sfits = c .before .before .before .before .before .a .given }), toZ-ofZ {w = w32} {z = y} (record { sfits = c .before .before .before .before .b .given })) at (c .before .before .calculate .ensures) in
+    also (c .before .put .ensures lent room before g) (rw (calculated, live-two d cells (c .before .before .before .before .before .before .if1 .left)))
 
 pub two-sided-spec : {M : Type 1} → statement M
 two-sided-spec =
