@@ -22,7 +22,7 @@ use Rattle.lexeme.specs.declared.Found.the-variants as found
 use Rattle.lexeme.proofs.Found.{the-type}
 use Rattle.sentence.specs.Sentences.{Sen, command}
 use Rattle.sentence.specs.Reader.{read}
-use Rattle.names.specs.Names.{Known, nothing-declared, resolved}
+use Rattle.names.specs.Names.{Known, resolved}
 use Rattle.machine.specs.Instructions.{halt, push-int, pair}
 use Rattle.meaning.specs.Layout.{size, need, code, program-code, program-need}
 use Rattle.meaning.proofs.Laid.{laid-program}

@@ -11,7 +11,7 @@ use lib.Dec.{ltb, eqb}
 use lib.IntN.{ℤ, pos}
 use lib.ListN.{length, getD, take, drop, set, replicate, length-set, length-replicate, getD-replicate, List·getD-append}
 use lib.Seq.{sets, sets-eq, getD-set-same, getD-set-other, getD-append-add, length-sets, length-take-le}
-use borrow.Author.Tests.{ltb-true, eqb-true}
+use borrow.Author.Tests.{ltb-true}
 use Rattle.lexeme.specs.Answers.{Answer, given, refused, pass}
 use Rattle.lexeme.specs.Bytes.{same}
 use Rattle.lexeme.specs.Coded.{sign-code, mul-code, rel-code}

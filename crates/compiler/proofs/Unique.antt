@@ -1,7 +1,7 @@
 -- The contract of `compile` leaves one answer and one table for each text and each lent table. Assumes nothing.
 use mathlib.Core.Path.{_≡_, refl, sym, ap, _∙_}
 use mathlib.Core.List.{List}
-use mathlib.Core.Bool.{Bool, true, false, cond, _||_}
+use mathlib.Core.Bool.{_||_}
 use mathlib.Core.Logic.{⊎-elim}
 use Prim.Native.Nat.{ℕ, _/_}
 use native.Mathlib.Omega.{arith}
@@ -11,7 +11,7 @@ use lib.ListN.{length}
 use Rattle.limits.specs.Limits.{Limits}
 use Rattle.lexeme.specs.Answers as A
 use Rattle.lexeme.specs.Answers.{given, refused, pass}
-use Rattle.lexeme.specs.Lexemes.{Placed, lexemes}
+use Rattle.lexeme.specs.Lexemes.{lexemes}
 use Rattle.names.specs.Names.{nothing-declared, resolved}
 use Rattle.meaning.specs.Layout.{program-need}
 use Rattle.meaning.proofs.Laid.{laid-program}
@@ -21,7 +21,7 @@ use Rattle.compiler.specs.Answers.{reported, Says}
 use Rattle.compiler.specs.Compiled as C
 use Rattle.compiler.specs.Compiled.{Report, report, short-enough, code-of-text, fitting, lexed, laid-out, compiled}
 use Rattle.compiler.specs.Walks.{named}
-use Rattle.compiler.proofs.Lays.{never, refused-6-or-7}
+use Rattle.compiler.proofs.Lays.{refused-6-or-7}
 use Rattle.compiler.proofs.Reading.{read-refuses}
 use Rattle.compiler.proofs.Refusals.{Only, no-refusal, by-number, only-from, only-number, only-test, only-pass, lexemes-refuse}
 

@@ -1,6 +1,6 @@
 -- Document 01, "Refused texts": the order of refusals, and what each text leaves in the lent code table.
 use mathlib.Core.List.{List, [], _++_}
-use mathlib.Core.Bool.{Bool, cond, _||_}
+use mathlib.Core.Bool.{cond, _||_}
 use Prim.Native.Nat.{ℕ, _/_, _-_}
 use lib.Dec.{ltb}
 use lib.IntN.{ℤ, pos}
@@ -10,7 +10,7 @@ use Rattle.lexeme.specs.Answers.{Answer, given, refused, pass}
 use Rattle.lexeme.specs.Lexemes.{Placed, Sizes, lexemes}
 use Rattle.sentence.specs.Sentences.{Sen, command}
 use Rattle.sentence.specs.Reader.{read}
-use Rattle.names.specs.Names.{Known, resolved}
+use Rattle.names.specs.Names.{resolved}
 use Rattle.machine.specs.Instructions.{Instruction, numbers}
 use Rattle.meaning.specs.Layout.{program-code, program-need}
 

@@ -5,12 +5,14 @@ ghost use Rattle.lexeme.specs.Coded.{code-of};
 ghost use Rattle.compiler.specs.Steps.{printing-number, before-body, ended-walk, ended-table};
 ghost use Rattle.compiler.specs.Walks.{Ready, Reads-command, Reads-print, Reads-string, Reads-declare, Reads-read, Reads-assign, Reads-nested, Reads-guarded, Reads-block};
 use crate::expression;
+use crate::operations;
 use crate::scope;
 use crate::seen;
 use crate::walk;
 use crate::walk::Read;
 use crate::walk::Walk;
 use lexeme::Kind;
+use lexeme::fixed;
 use limits::Limits;
 
 // ---- after the first lexeme of a command without a body
@@ -24,14 +26,18 @@ fn print_int(text: &[u8], names: &[usize], table: &mut [i32], w: Walk, allow: us
     let Read::Done(x) = r else {
         return r;
     };
-    Read::Done(walk::emitted(table, x, 17, 0, x.need))
+    Read::Done(walk::emitted(table, x, operations::PRINT_INT, 0, x.need))
 }
 
 // The operation of PRINTLNS, which prints a line, or of PRINTS.
 fn printing(line: bool) -> i32
     ensures { λ r. ⌜ r ≡ printing-number line ⌝ }
 {
-    if line { 19 } else { 18 }
+    if line {
+        operations::PRINT_STR_LN
+    } else {
+        operations::PRINT_STR
+    }
 }
 
 // After PRINTLNS or PRINTS.
@@ -66,8 +72,8 @@ fn declare(text: &[u8], names: &mut [usize], table: &mut [i32], w: Walk, allow: 
     let Kind::Name = kind else {
         return Read::Refused(4, l.place);
     };
-    let x = walk::emitted(table, walk::moved(w, l.end), 2, 0, 1);
-    let y = walk::emitted(table, x, 4, x.declared as i32, 1);
+    let x = walk::emitted(table, walk::moved(w, l.end), operations::PUSH_INT, 0, 1);
+    let y = walk::emitted(table, x, operations::STORE_STACK, x.declared as i32, 1);
     Read::Done(scope::declared(names, y, l.place))
 }
 
@@ -81,8 +87,8 @@ fn read(text: &[u8], names: &[usize], table: &mut [i32], w: Walk, allow: usize) 
     let Kind::Name = kind else {
         return Read::Refused(4, l.place);
     };
-    let x = walk::emitted(table, walk::moved(w, l.end), 16, 0, 1);
-    Read::Done(scope::used(text, names, table, x, l.place, 4, 1))
+    let x = walk::emitted(table, walk::moved(w, l.end), operations::READ, 0, 1);
+    Read::Done(scope::used(text, names, table, x, l.place, operations::STORE_STACK, 1))
 }
 
 // After the name at a place. The name is looked up first, since it stands left of the Expression's names.
@@ -107,7 +113,7 @@ fn assign(
         return s;
     };
     let k = scope::cell_of(c);
-    Read::Done(walk::emitted(table, y, 4, k as i32, y.need))
+    Read::Done(walk::emitted(table, y, operations::STORE_STACK, k as i32, y.need))
 }
 
 // ---- around the body of an IF or a WHILE
@@ -116,7 +122,7 @@ fn assign(
 fn before_body(again: bool) -> u8
     ensures { λ r. ⌜ r ≡ code-of (before-body again) ⌝ }
 {
-    if again { 3 } else { 19 }
+    if again { fixed::DO } else { fixed::THEN }
 }
 
 // After the body: WHILE jumps back to its condition.
@@ -125,7 +131,7 @@ fn ended(table: &mut [i32], w: Walk, again: bool, back: usize, need: usize) -> W
     ensures { λ r. ⌜ (r ≡ ended-walk again w need) × (now (table .exit) ≡ ended-table again (now (table .entry)) (w .code) back) ⌝ }
 {
     if again {
-        return walk::emitted(table, w, 5, back as i32, need);
+        return walk::emitted(table, w, operations::JUMP, back as i32, need);
     }
     walk::with_need(w, need)
 }
@@ -144,13 +150,13 @@ pub fn command(text: &[u8], names: &mut [usize], table: &mut [i32], w: Walk, all
     }
     let f = seen::fixed_of(kind);
     match f {
-        4 => Read::Done(walk::emitted(table, x, 1, 1, 0)),
-        8 => declare(text, names, table, x, allow),
-        12 => print_int(text, names, table, x, allow),
-        13 => print_string(text, names, table, x, true, allow),
-        14 => print_string(text, names, table, x, false, allow),
-        16 => read(text, names, table, x, allow),
-        6 | 21 | 123 => {
+        fixed::ERROR => Read::Done(walk::emitted(table, x, operations::HALT, 1, 0)),
+        fixed::INT => declare(text, names, table, x, allow),
+        fixed::PRINTI => print_int(text, names, table, x, allow),
+        fixed::PRINTLNS => print_string(text, names, table, x, true, allow),
+        fixed::PRINTS => print_string(text, names, table, x, false, allow),
+        fixed::READ => read(text, names, table, x, allow),
+        fixed::IF | fixed::WHILE | b'{' => {
             if allow == 0 {
                 return Read::Refused(5, l.place);
             }
@@ -168,7 +174,7 @@ fn nested(text: &[u8], names: &mut [usize], table: &mut [i32], w: Walk, f: u8, a
     if f == b'{' {
         return block(text, names, table, w, allow);
     }
-    guarded(text, names, table, w, f == 21, allow)
+    guarded(text, names, table, w, f == fixed::WHILE, allow)
 }
 
 // After IF, or after WHILE, whose body is done again; with so many nestings allowed inside.
@@ -196,7 +202,7 @@ fn guarded(
         return t;
     };
     let end = ended(table, y, again, w.code, walk::larger(x.need, y.need));
-    walk::put(table, x.code, 6, end.code as i32);
+    walk::put(table, x.code, operations::JUMP_IF_FALSE, end.code as i32);
     Read::Done(end)
 }
 

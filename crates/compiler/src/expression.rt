@@ -1,11 +1,13 @@
 // Expressions and conditions: one walk reads and translates. Repetition is by loops; only brackets and NOT recurse.
 ghost use Rattle.compiler.specs.Walks.{Ready, Reads-factor, Reads-bracket, Reads-term, Reads-first-term, Reads-expression, Reads-condition, Reads-comparison};
+use crate::operations;
 use crate::scope;
 use crate::seen;
 use crate::walk;
 use crate::walk::Read;
 use crate::walk::Walk;
 use lexeme::Kind;
+use lexeme::fixed;
 use limits::Limits;
 
 fn factor(text: &[u8], names: &[usize], table: &mut [i32], w: Walk, allow: usize) -> Read
@@ -16,8 +18,16 @@ fn factor(text: &[u8], names: &[usize], table: &mut [i32], w: Walk, allow: usize
     let kind = l.kind;
     let x = walk::moved(w, l.end);
     match kind {
-        Kind::Literal(v) => Read::Done(walk::emitted(table, x, 2, v as i32, 1)),
-        Kind::Name => Read::Done(scope::used(text, names, table, x, l.place, 3, 1)),
+        Kind::Literal(v) => Read::Done(walk::emitted(table, x, operations::PUSH_INT, v as i32, 1)),
+        Kind::Name => Read::Done(scope::used(
+            text,
+            names,
+            table,
+            x,
+            l.place,
+            operations::LOAD_STACK,
+            1,
+        )),
         _ => {
             if seen::fixed_of(kind) != b'(' {
                 return Read::Refused(4, l.place);
@@ -82,7 +92,7 @@ fn first_term(text: &[u8], names: &[usize], table: &mut [i32], w: Walk, allow: u
         return r;
     };
     if g == b'-' {
-        return Read::Done(walk::emitted(table, x, 14, 0, x.need));
+        return Read::Done(walk::emitted(table, x, operations::NEGATE, 0, x.need));
     }
     Read::Done(x)
 }
@@ -117,7 +127,7 @@ pub fn condition(text: &[u8], names: &[usize], table: &mut [i32], w: Walk, allow
 {
     let l = seen::look(text, w.at);
     let kind = l.kind;
-    if seen::fixed_of(kind) != 10 {
+    if seen::fixed_of(kind) != fixed::NOT {
         return comparison(text, names, table, w, allow);
     }
     if allow == 0 {
@@ -127,7 +137,7 @@ pub fn condition(text: &[u8], names: &[usize], table: &mut [i32], w: Walk, allow
     let Read::Done(x) = r else {
         return r;
     };
-    Read::Done(walk::emitted(table, x, 15, 0, x.need))
+    Read::Done(walk::emitted(table, x, operations::NOT, 0, x.need))
 }
 
 // An Expression, one relation, an Expression.

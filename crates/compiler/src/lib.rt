@@ -1,13 +1,13 @@
 // The compiler: a text and a lent code table to an answer.
 mod command;
 mod expression;
+mod operations;
 mod scope;
 mod seen;
 mod walk;
 
 ghost use mathlib.Core.Path.{_≡_};
-ghost use mathlib.Core.List.{[], _∷_};
-ghost use Prim.Native.Nat.{_≤_};
+ghost use mathlib.Core.List.{[]};
 ghost use lib.IntN.{pos};
 ghost use lib.ListN.{length, replicate};
 ghost use Rattle.limits.specs.Limits.{Sizes};
@@ -16,6 +16,7 @@ ghost use Rattle.compiler.specs.Compiled.{compiled};
 ghost use Rattle.compiler.specs.Tables.{opening};
 ghost use Rattle.compiler.specs.Walks.{Set-out, Reads-program};
 use lexeme::Found;
+use lexeme::fixed;
 use limits::Limits;
 use walk::Read;
 use walk::Walk;
@@ -40,7 +41,7 @@ fn program(text: &[u8], names: &mut [usize], table: &mut [i32], code: usize) -> 
         fault: 0,
         place: 0,
     };
-    let r = seen::expect(text, start, 3);
+    let r = seen::expect(text, start, fixed::DO);
     let Read::Done(w) = r else {
         return r;
     };
@@ -50,7 +51,7 @@ fn program(text: &[u8], names: &mut [usize], table: &mut [i32], code: usize) -> 
     };
     let l = seen::look(text, x.at);
     let kind = l.kind;
-    if seen::fixed_of(kind) != 0 {
+    if seen::fixed_of(kind) != fixed::END {
         return Read::Refused(4, l.place);
     }
     Read::Done(x)
@@ -73,7 +74,7 @@ fn open(table: &mut [i32], cells: usize)
 {
     let mut i = 0;
     while i < cells {
-        walk::put(table, i, 2, 0);
+        walk::put(table, i, operations::PUSH_INT, 0);
         i += 1;
     }
 }
@@ -89,7 +90,7 @@ fn write(text: &[u8], table: &mut [i32], cells: usize)
     let Read::Done(w) = r else {
         return;
     };
-    walk::put(table, w.code, 1, 0);
+    walk::put(table, w.code, operations::HALT, 0);
 }
 
 // What the sentences decide, once the table is all zeros.

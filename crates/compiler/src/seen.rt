@@ -2,12 +2,14 @@
 ghost use mathlib.Core.Path.{_≡_};
 ghost use Rattle.compiler.specs.Lexing.{Clean, Looks, Expects};
 ghost use Rattle.compiler.specs.Steps.{fixed-number, sign-number, mul-number, rel-number, operation-number};
+use crate::operations;
 use crate::walk;
 use crate::walk::Read;
 use crate::walk::Walk;
 use lexeme::Found;
 use lexeme::Kind;
 use lexeme::Lexeme;
+use lexeme::fixed;
 use limits::Limits;
 
 // The lexeme at or after a place; at the end of the text, the end.
@@ -17,7 +19,7 @@ pub fn look(text: &[u8], at: usize) -> Lexeme
 {
     let Found::Is(l) = lexeme::next(text, at) else {
         return Lexeme {
-            kind: Kind::Fixed(0),
+            kind: Kind::Fixed(fixed::END),
             place: text.len(),
             end: text.len(),
         };
@@ -68,13 +70,13 @@ pub fn operation(b: u8) -> i32
     ensures { λ r. ⌜ r ≡ operation-number b ⌝ }
 {
     match b {
-        b'+' => 7,
-        b'-' => 8,
-        b'*' => 9,
-        b'/' => 10,
-        b'=' => 11,
-        b'<' => 12,
-        _ => 13,
+        b'+' => operations::PLUS,
+        b'-' => operations::MINUS,
+        b'*' => operations::TIMES,
+        b'/' => operations::DIVIDE,
+        b'=' => operations::EQUALS,
+        b'<' => operations::SMALLER,
+        _ => operations::GREATER,
     }
 }
 

@@ -1,5 +1,5 @@
 -- Laws of `here` and `next`: by what stands at a place, and that a lexeme stands within the text, at or after the place. Assumes nothing.
-use mathlib.Core.Path.{_≡_, refl, sym, subst, ap, _∙_}
+use mathlib.Core.Path.{_≡_, refl, sym, subst, ap}
 use mathlib.Core.List.{List, [], _∷_}
 use mathlib.Core.Bool.{Bool, true, false, cond}
 use Prim.Native.Nat.{ℕ, _+_, _-_, _≤_, _<_}
@@ -14,7 +14,6 @@ use Rattle.lexeme.specs.Bytes.{separator, letter, digit, letter-or-digit
 use Rattle.lexeme.specs.Lexemes.{Lexeme, name, class, string, fixed, becomes, Placed, Next, lexeme, nothing, found, Keyword, keywords, capital-word, starts-small, value, Sizes, letter-word, digit-word, word, string-at, Symbol, symbols, symbol, colon, here, next}
 use Rattle.lexeme.specs.Coded.{kind-of, coded, sign-code, mul-code, rel-code, code-of}
 use Rattle.lexeme.specs.declared.Lexeme as coded-lexeme
-use Rattle.lexeme.specs.declared.Found.{Found}
 use Rattle.lexeme.specs.declared.Found.the-variants.{Is, End, Refused}
 use Rattle.lexeme.proofs.Decoded.{what-of, placed-of, sign-of, mul-of, rel-of, fixed-of, fixed-in, fixeds, fixed-back}
 use Rattle.lexeme.proofs.Runs.{run-take, run-yes, run-fits}
@@ -169,13 +168,6 @@ module _ (most : Sizes) (text : List ℕ) (at : ℕ) where
   pub found-stands : (x : coded-lexeme.Lexeme) → Is x ≡ coded (next most text at) → Stands text at (placed-of text x) (x .end)
   found-stands x h = next-stands (placed-of text x) (x .end) (next-is x h)
 
-  -- its kind is the code of that lexeme, so that two kinds differ where the lexemes do
-  pub found-kind : (x : coded-lexeme.Lexeme) → Is x ≡ coded (next most text at) → x .kind ≡ kind-of (placed-of text x .what)
-  unfolding coded
-  found-kind x h =
-      let m : x ≡ record { kind = kind-of (placed-of text x .what); place = x .place; end = x .end } = cc (h ∙ ap coded (next-is x h)) in
-      ap (λ (y : coded-lexeme.Lexeme). y .kind) m
-
 pub coded-end : (a : Answer Next) → End ≡ coded a → a ≡ given nothing
 unfolding coded
 coded-end (given (lexeme l e)) h = cc
@@ -187,12 +179,3 @@ unfolding coded
 coded-refused (given (lexeme l e)) n p h = cc
 coded-refused (given nothing) n p h = cc
 coded-refused (refused m q) n p h = cc
-
--- two readings of one text that the code cannot tell apart are the same
-pub next-injective : (most most′ : Sizes) (text : List ℕ) (at at′ : ℕ) → coded (next most text at) ≡ coded (next most′ text at′) → next most text at ≡ next most′ text at′
-next-injective most most′ text at at′ h = by-code (coded (next most text at)) refl h
-  where
-    by-code : (r : Found) → r ≡ coded (next most text at) → r ≡ coded (next most′ text at′) → next most text at ≡ next most′ text at′
-    by-code (Is x) g h = next-is most text at x g ∙ sym (next-is most′ text at′ x h)
-    by-code End g h = coded-end _ g ∙ sym (coded-end _ h)
-    by-code (Refused n p) g h = coded-refused _ n p g ∙ sym (coded-refused _ n p h)

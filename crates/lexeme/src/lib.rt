@@ -8,6 +8,8 @@ ghost use Rattle.lexeme.specs.Lexemes.{keywords, capital-word, starts-sm
 ghost use Rattle.lexeme.specs.Coded.{such, kind-of, coded, scanned};
 use limits::Limits;
 
+pub mod fixed;
+
 // The bytes that a run is made of.
 pub enum Such {
     Separator,
@@ -131,34 +133,34 @@ fn capital_word(word: &[u8]) -> Kind
     ensures { λ r. ⌜ ((p : ℕ) → r ≡ kind-of (capital-word keywords p (now (word .entry)))) ⌝ }
 {
     if is_same(word, b"CALL") {
-        return Kind::Fixed(1);
+        return Kind::Fixed(fixed::CALL);
     }
     if is_same(word, b"CLASS") {
-        return Kind::Fixed(2);
+        return Kind::Fixed(fixed::CLASS);
     }
     if is_same(word, b"DO") {
-        return Kind::Fixed(3);
+        return Kind::Fixed(fixed::DO);
     }
     if is_same(word, b"ERROR") {
-        return Kind::Fixed(4);
+        return Kind::Fixed(fixed::ERROR);
     }
     if is_same(word, b"FIELDS") {
-        return Kind::Fixed(5);
+        return Kind::Fixed(fixed::FIELDS);
     }
     if is_same(word, b"IF") {
-        return Kind::Fixed(6);
+        return Kind::Fixed(fixed::IF);
     }
     if is_same(word, b"INIT") {
-        return Kind::Fixed(7);
+        return Kind::Fixed(fixed::INIT);
     }
     if is_same(word, b"INT") {
-        return Kind::Fixed(8);
+        return Kind::Fixed(fixed::INT);
     }
     if is_same(word, b"METHOD") {
-        return Kind::Fixed(9);
+        return Kind::Fixed(fixed::METHOD);
     }
     if is_same(word, b"NOT") {
-        return Kind::Fixed(10);
+        return Kind::Fixed(fixed::NOT);
     }
     later_capital_word(word)
 }
@@ -168,37 +170,37 @@ fn later_capital_word(word: &[u8]) -> Kind
     ensures { λ r. ⌜ ((p : ℕ) → r ≡ kind-of (capital-word (drop 10 keywords) p (now (word .entry)))) ⌝ }
 {
     if is_same(word, b"OBJ") {
-        return Kind::Fixed(11);
+        return Kind::Fixed(fixed::OBJ);
     }
     if is_same(word, b"PRINTI") {
-        return Kind::Fixed(12);
+        return Kind::Fixed(fixed::PRINTI);
     }
     if is_same(word, b"PRINTLNS") {
-        return Kind::Fixed(13);
+        return Kind::Fixed(fixed::PRINTLNS);
     }
     if is_same(word, b"PRINTS") {
-        return Kind::Fixed(14);
+        return Kind::Fixed(fixed::PRINTS);
     }
     if is_same(word, b"PROCEDURE") {
-        return Kind::Fixed(15);
+        return Kind::Fixed(fixed::PROCEDURE);
     }
     if is_same(word, b"READ") {
-        return Kind::Fixed(16);
+        return Kind::Fixed(fixed::READ);
     }
     if is_same(word, b"RETURNS") {
-        return Kind::Fixed(17);
+        return Kind::Fixed(fixed::RETURNS);
     }
     if is_same(word, b"SUBCLASSOF") {
-        return Kind::Fixed(18);
+        return Kind::Fixed(fixed::SUBCLASSOF);
     }
     if is_same(word, b"THEN") {
-        return Kind::Fixed(19);
+        return Kind::Fixed(fixed::THEN);
     }
     if is_same(word, b"USING") {
-        return Kind::Fixed(20);
+        return Kind::Fixed(fixed::USING);
     }
     if is_same(word, b"WHILE") {
-        return Kind::Fixed(21);
+        return Kind::Fixed(fixed::WHILE);
     }
     Kind::Class
 }

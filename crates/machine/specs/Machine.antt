@@ -1,10 +1,10 @@
 -- Document 01, "How a run ends": one instruction, in the paper's order of tests, and the run.
 use mathlib.Core.List.{List, [], _∷_, _++_}
-use mathlib.Core.Bool.{Bool, true, false, cond}
+use mathlib.Core.Bool.{false, cond}
 use mathlib.Core.Option.{Option, none, some}
 use Prim.Native.Nat.{ℕ, zero, suc, _+_, _-_, _*_, _/_, _%_}
 use lib.Dec.{leb, ltb, eqb}
-use lib.IntN.{ℤ, pos, negsuc, negℤ}
+use lib.IntN.{ℤ, pos, negℤ}
 use lib.ListN.{length, getD, getElem?, drop, replicate}
 use Rattle.lexeme.specs.Bytes.{no-quote}
 use Rattle.lexeme.specs.Bytes as B

@@ -1,6 +1,6 @@
 -- Document 01, "Sentences", on names, and refusals 6 and 7: a tree over names becomes a tree over cells.
 use mathlib.Core.List.{List, [], _∷_}
-use mathlib.Core.Bool.{Bool, true, false, cond}
+use mathlib.Core.Bool.{true, false, cond}
 use Prim.Native.Nat.{ℕ, suc}
 use lib.Dec.{ltb}
 use Rattle.lexeme.specs.Answers.{Answer, given, refused, pass}
