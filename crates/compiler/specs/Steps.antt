@@ -2,6 +2,7 @@
 use mathlib.Core.List.{List, [], _∷_}
 use mathlib.Core.Bool.{Bool, true, false, cond}
 use Prim.Native.Nat.{ℕ, zero, suc, _+_}
+use Prim.Native.Char.{code}
 use lib.Dec.{ltb, eqb}
 use lib.IntN.{ℤ, pos}
 use lib.ListN.{length, set}
@@ -11,6 +12,8 @@ use Rattle.lexeme.specs.Lexemes.{DO, THEN}
 use Rattle.lexeme.specs.declared.Kind.{Kind}
 use Rattle.lexeme.specs.declared.Kind.the-variants.{Literal, Name, Class, Str, Sign, Mul, Rel, Fixed}
 use Rattle.names.specs.Names.{Declaration}
+use Rattle.machine.specs.Numbers.{plus, minus, times, divide, equals, smaller, greater}
+use Rattle.machine.specs.Instructions.{number}
 use Rattle.compiler.specs.declared.walk.Walk.{Walk}
 use Rattle.compiler.specs.declared.scope.Cell.{Cell}
 use Rattle.compiler.specs.declared.scope.Cell.the-variants.{At, Nowhere}
@@ -96,13 +99,13 @@ rel-number (Fixed f) = 0
 -- the operation of a symbol's byte
 unfoldable pub operation-number : ℕ → ℤ
 operation-number b =
-    cond (eqb b 43) (pos 7)
-    (cond (eqb b 45) (pos 8)
-    (cond (eqb b 42) (pos 9)
-    (cond (eqb b 47) (pos 10)
-    (cond (eqb b 61) (pos 11)
-    (cond (eqb b 60) (pos 12)
-    (pos 13))))))
+    cond (eqb b (code "+")) (number plus)
+    (cond (eqb b (code "-")) (number minus)
+    (cond (eqb b (code "*")) (number times)
+    (cond (eqb b (code "/")) (number divide)
+    (cond (eqb b (code "=")) (number equals)
+    (cond (eqb b (code "<")) (number smaller)
+    (number greater))))))
 
 -- ---- names
 

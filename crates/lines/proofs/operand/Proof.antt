@@ -10,7 +10,6 @@ use lib.Signed.{leZ, nonNeg}
 use mir.Facts.{toZ-ofZ, fits-natAbs}
 use Rattle.lines.proofs.operand.Statement.{statement}
 use Rattle.lines.proofs.operand.Tie as tie
-use Rattle.lines.proofs.operand.Reads as reads
 
 slice-aggregate-write-all : tie.Need-slice-aggregate-write-all
 slice-aggregate-write-all c = search needs
