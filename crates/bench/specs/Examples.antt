@@ -6,7 +6,7 @@ use lib.IntN.{ℤ, pos}
 use Rattle.limits.specs.Limits.{Limits}
 use Rattle.lexeme.specs.Answers.{Answer, given, refused}
 use Rattle.lexeme.specs.Bytes.{bytes}
-use Rattle.machine.specs.Instructions.{numbers}
+use Rattle.instruction.specs.Instructions.{numbers}
 use Rattle.machine.specs.Machine.{whole-run}
 use Rattle.meaning.specs.Layout.{program-need}
 use Rattle.compiler.specs.Compiled.{Accepted, compiled, code-of-text}

@@ -23,7 +23,7 @@ use Rattle.lexeme.proofs.Found.{the-type}
 use Rattle.sentence.specs.Sentences.{Sen, command}
 use Rattle.sentence.specs.Reader.{read}
 use Rattle.names.specs.Names.{Known, resolved}
-use Rattle.machine.specs.Instructions.{halt, push-int, pair}
+use Rattle.instruction.specs.Instructions.{halt, push-int, pair}
 use Rattle.meaning.specs.Layout.{size, need, code, program-code, program-need}
 use Rattle.meaning.proofs.Laid.{laid-program}
 use Rattle.compiler.specs.declared.walk.Walk.{Walk}

@@ -14,7 +14,7 @@ use Rattle.lexeme.specs.Coded.{sign-code, mul-code, rel-code}
 use Rattle.lexeme.specs.Lexemes as L
 use Rattle.lexeme.specs.Lexemes.{Sign, Mul, Rel}
 use Rattle.sentence.specs.Sentences.{Kind, Sen}
-use Rattle.machine.specs.Instructions.{Instruction, halt, push-int, load-stack, store-stack, jump, jump-if-false, two-sided, negate, not, read, print-int, print-str, print-str-ln, number, pair}
+use Rattle.instruction.specs.Instructions.{Instruction, halt, push-int, load-stack, store-stack, jump, jump-if-false, two-sided, negate, not, read, print-int, print-str, print-str-ln, number, pair}
 use Rattle.meaning.specs.Layout.{of-mul, of-sign, of-rel, size, code}
 use Rattle.meaning.proofs.Laid.{laid}
 use Rattle.compiler.specs.Steps.{operation-number}

@@ -20,8 +20,8 @@ use Rattle.lexeme.specs.Lexemes.{Name, Quoted, Sign, Mul, Rel, Sizes}
 use Rattle.sentence.specs.Sentences.{Kind, Sen, factor, term, expression, condition, command, commands, literal, variable, bracket, first, multiply, unsigned, signed, add, negated, compare, print, print-line, print-string, declare, input, assign, error, while, when, block, single, then}
 use Rattle.names.specs.Names as N
 use Rattle.names.specs.Names.{Declaration, Scope, Known, Naming, _>>=_, give, look-up, used, declared-here, scoped, resolve}
-use Rattle.machine.specs.Numbers.{Two-sided}
-use Rattle.machine.specs.Instructions.{Instruction, halt, push-int, load-stack, store-stack, jump, jump-if-false, two-sided, negate, not, read, print-int, print-str, print-str-ln, number, pair}
+use Rattle.instruction.specs.Numbers.{Two-sided}
+use Rattle.instruction.specs.Instructions.{Instruction, halt, push-int, load-stack, store-stack, jump, jump-if-false, two-sided, negate, not, read, print-int, print-str, print-str-ln, number, pair}
 use Rattle.meaning.specs.Layout.{of-mul, of-sign, of-rel, size, code, need}
 use Rattle.compiler.specs.declared.walk.Walk.{Walk}
 use Rattle.compiler.specs.declared.scope.Cell.{Cell}

@@ -11,7 +11,7 @@ use mir.Val.{SFits}
 use lib.IntN.{ℤ, pos}
 use lib.ListN.{length, set, replicate, length-replicate, drop-of-length-le}
 use lib.Seq.{sets, sets-eq}
-use Rattle.machine.specs.Instructions.{Instruction, pair}
+use Rattle.instruction.specs.Instructions.{Instruction, pair}
 use Rattle.compiler.specs.Tables.{put, emit}
 
 -- a loop that stores v up to a place: what is left to store, before and after one store

@@ -11,7 +11,7 @@ use Rattle.lexeme.specs.Lexemes.{Placed, Sizes, lexemes}
 use Rattle.sentence.specs.Sentences.{Sen, command}
 use Rattle.sentence.specs.Reader.{read}
 use Rattle.names.specs.Names.{resolved}
-use Rattle.machine.specs.Instructions.{Instruction, numbers}
+use Rattle.instruction.specs.Instructions.{Instruction, numbers}
 use Rattle.meaning.specs.Layout.{program-code, program-need}
 
 -- an accepted text: its Command over cells, and how many cells there are

@@ -12,8 +12,8 @@ use Rattle.lexeme.specs.Lexemes.{DO, THEN}
 use Rattle.lexeme.specs.declared.Kind.{Kind}
 use Rattle.lexeme.specs.declared.Kind.the-variants.{Literal, Name, Class, Str, Sign, Mul, Rel, Fixed}
 use Rattle.names.specs.Names.{Declaration}
-use Rattle.machine.specs.Numbers.{plus, minus, times, divide, equals, smaller, greater}
-use Rattle.machine.specs.Instructions.{number}
+use Rattle.instruction.specs.Numbers.{plus, minus, times, divide, equals, smaller, greater}
+use Rattle.instruction.specs.Instructions.{number}
 use Rattle.compiler.specs.declared.walk.Walk.{Walk}
 use Rattle.compiler.specs.declared.scope.Cell.{Cell}
 use Rattle.compiler.specs.declared.scope.Cell.the-variants.{At, Nowhere}

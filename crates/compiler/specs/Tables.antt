@@ -6,7 +6,7 @@ use lib.Dec.{ltb}
 use lib.IntN.{ℤ, pos}
 use lib.ListN.{length, replicate}
 use lib.Seq.{sets}
-use Rattle.machine.specs.Instructions.{Instruction, push-int, pair}
+use Rattle.instruction.specs.Instructions.{Instruction, push-int, pair}
 
 -- a pair at the n-th place, if the table has that place
 unfoldable pub put : List ℤ → ℕ → List ℤ → List ℤ

@@ -1,11 +1,11 @@
 // Expressions and conditions: one walk reads and translates. Repetition is by loops; only brackets and NOT recurse.
 ghost use Rattle.compiler.specs.Walks.{Ready, Reads-factor, Reads-bracket, Reads-term, Reads-first-term, Reads-expression, Reads-condition, Reads-comparison};
-use crate::operations;
 use crate::scope;
 use crate::seen;
 use crate::walk;
 use crate::walk::Read;
 use crate::walk::Walk;
+use instruction::operations;
 use lexeme::Kind;
 use lexeme::fixed;
 use limits::Limits;

@@ -1,7 +1,6 @@
 // The compiler: a text and a lent code table to an answer.
 mod command;
 mod expression;
-mod operations;
 mod scope;
 mod seen;
 mod walk;
@@ -15,6 +14,7 @@ ghost use Rattle.compiler.specs.Answers.{Says, By-sentences, Written};
 ghost use Rattle.compiler.specs.Compiled.{compiled};
 ghost use Rattle.compiler.specs.Tables.{opening};
 ghost use Rattle.compiler.specs.Walks.{Set-out, Reads-program};
+use instruction::operations;
 use lexeme::Found;
 use lexeme::fixed;
 use limits::Limits;

@@ -2,10 +2,10 @@
 ghost use mathlib.Core.Path.{_≡_};
 ghost use Rattle.compiler.specs.Lexing.{Clean, Looks, Expects};
 ghost use Rattle.compiler.specs.Steps.{fixed-number, sign-number, mul-number, rel-number, operation-number};
-use crate::operations;
 use crate::walk;
 use crate::walk::Read;
 use crate::walk::Walk;
+use instruction::operations;
 use lexeme::Found;
 use lexeme::Kind;
 use lexeme::Lexeme;

@@ -9,7 +9,7 @@ use lib.Seq.{take-at}
 use Rattle.limits.specs.Limits.{Limits}
 use Rattle.lexeme.specs.Answers as A
 use Rattle.lexeme.specs.Answers.{given, refused}
-use Rattle.machine.specs.Instructions.{numbers}
+use Rattle.instruction.specs.Instructions.{numbers}
 use Rattle.machine.specs.Machine.{whole-run}
 use Rattle.machine.specs.Promise.{lends, Ran}
 use Rattle.machine.specs.declared.Report as Code

@@ -15,8 +15,8 @@ use Rattle.sentence.specs.Reader.{read}
 use Rattle.sentence.proofs.Refusals.{accepts}
 use Rattle.names.specs.Names.{resolved}
 use Rattle.names.proofs.Resolved.{resolved-well}
-use Rattle.machine.specs.Endings.{budget-spent, stack-full, bad-code}
-use Rattle.machine.specs.Instructions.{numbers}
+use Rattle.instruction.specs.Endings.{budget-spent, stack-full, bad-code}
+use Rattle.instruction.specs.Instructions.{numbers}
 use Rattle.machine.specs.Machine.{whole-run, report}
 use Rattle.meaning.specs.Layout.{program-need}
 use Rattle.meaning.specs.Meaning.{meaning}

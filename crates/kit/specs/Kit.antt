@@ -7,7 +7,7 @@ use lib.Dec.{eqb, leb}
 use lib.IntN.{ℤ}
 use lib.ListN.{length, take}
 use Rattle.lexeme.specs.Answers.{Answer, given, refused}
-use Rattle.machine.specs.Endings.{normal}
+use Rattle.instruction.specs.Endings.{normal}
 use Rattle.machine.specs.Machine as M
 use Rattle.machine.specs.Promise as Promise
 use Rattle.machine.specs.declared.Report as Code

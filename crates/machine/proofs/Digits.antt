@@ -11,8 +11,8 @@ use lib.Signed.{ltZ, nonNeg}
 use lib.ListN.{length, drop, set, length-set, length-append, length-drop}
 use lib.Seq.{drop-cons, drop-set-lt, getD-set-same}
 use borrow.Author.Tests.{ltb-true, ltb-false, lt-ltb, le-ltb}
-use Rattle.machine.specs.Numbers.{digits, decimal}
-use Rattle.machine.proofs.Signed.{no}
+use Rattle.instruction.specs.Numbers.{digits, decimal}
+use Rattle.instruction.proofs.Signed.{no}
 
 abbrev pub all-digits : ℕ → List ℕ
 all-digits n = digits (suc n) n

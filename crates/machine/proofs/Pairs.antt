@@ -9,8 +9,8 @@ use lib.Dec.{ltb, eqb}
 use lib.IntN.{ℤ, pos}
 use lib.ListN.{length, getD, getElem?}
 use borrow.Author.Tests.{lt-ltb, ltb-false, eq-eqb}
-use Rattle.machine.specs.Numbers.{plus, minus, times, divide, equals, smaller, greater, is-false}
-use Rattle.machine.specs.Instructions.{Instruction, halt, push-int, load-stack, store-stack, jump, jump-if-false, two-sided, negate, not, read, print-int, print-str, print-str-ln, alone, natural, halting, operation, decode, number, pair, numbers}
+use Rattle.instruction.specs.Numbers.{plus, minus, times, divide, equals, smaller, greater, is-false}
+use Rattle.instruction.specs.Instructions.{Instruction, halt, push-int, load-stack, store-stack, jump, jump-if-false, two-sided, negate, not, read, print-int, print-str, print-str-ln, alone, natural, halting, operation, decode, number, pair, numbers}
 use Rattle.machine.specs.Machine.{Lent, pairs, fetched}
 
 -- an instruction that a pair can stand for: a Halt's operand is 0 or 1

@@ -6,7 +6,7 @@ use lib.IntN.{ℤ}
 use lib.ListN.{length, take, take-append-drop}
 use lib.Seq.{length-take-le}
 use borrow.Author.Tests.{eq-eqb, ne-eqb}
-use Rattle.machine.specs.Endings.{bad-code}
+use Rattle.instruction.specs.Endings.{bad-code}
 use Rattle.machine.specs.Machine.{Lent, Outside, go, stop, step, untouched, End, run, Report, report, bad-table, whole-run, room-after}
 use Rattle.machine.specs.declared.Report as Code
 use Rattle.machine.specs.declared.state.State.{State}

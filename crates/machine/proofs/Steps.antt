@@ -10,9 +10,9 @@ use lib.Dec.{ltb}
 use lib.IntN.{ℤ, pos}
 use lib.ListN.{length, getD, set, length-set, getElem?}
 use borrow.Author.Tests.{lt-ltb, le-ltb}
-use Rattle.machine.specs.Endings.{bad-code}
-use Rattle.machine.specs.Numbers.{value, Two-sided}
-use Rattle.machine.specs.Instructions.{two-sided}
+use Rattle.instruction.specs.Endings.{bad-code}
+use Rattle.instruction.specs.Numbers.{value, Two-sided}
+use Rattle.instruction.specs.Instructions.{two-sided}
 use Rattle.machine.specs.Machine.{Lent, Outside, go, stop, does, resulting}
 use Rattle.machine.specs.declared.state.State.{State}
 use Rattle.machine.specs.declared.state.Move.{Move}

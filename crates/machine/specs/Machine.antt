@@ -8,9 +8,9 @@ use lib.IntN.{ℤ, pos, negℤ}
 use lib.ListN.{length, getD, getElem?, drop, replicate}
 use Rattle.lexeme.specs.Bytes.{no-quote}
 use Rattle.lexeme.specs.Bytes as B
-use Rattle.machine.specs.Endings.{budget-spent, no-reading-left, stack-full, print-does-not-fit, bad-code}
-use Rattle.machine.specs.Numbers.{Result, value, ends, in-range, is-false, calculate, negation, decimal}
-use Rattle.machine.specs.Instructions.{Instruction, halt, push-int, load-stack, store-stack, jump, jump-if-false, two-sided, negate, not, read, print-int, print-str, print-str-ln, decode}
+use Rattle.instruction.specs.Endings.{budget-spent, no-reading-left, stack-full, print-does-not-fit, bad-code}
+use Rattle.instruction.specs.Numbers.{Result, value, ends, in-range, is-false, calculate, negation, decimal}
+use Rattle.instruction.specs.Instructions.{Instruction, halt, push-int, load-stack, store-stack, jump, jump-if-false, two-sided, negate, not, read, print-int, print-str, print-str-ln, decode}
 
 -- what a run is lent: the text, the code table, the readings, and the sizes of its stack and of its output room
 pub record Lent : Type 0 where

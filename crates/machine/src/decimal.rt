@@ -3,7 +3,7 @@ ghost use mathlib.Core.Path.{_≡_};
 ghost use lib.IntN.{natAbs};
 ghost use lib.ListN.{length, drop};
 ghost use Prim.Native.Nat.{suc, _≤_};
-ghost use Rattle.machine.specs.Numbers.{digits, decimal};
+ghost use Rattle.instruction.specs.Numbers.{digits, decimal};
 
 // The distance from zero.
 fn distance(v: i32) -> u32

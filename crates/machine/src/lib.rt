@@ -5,13 +5,11 @@ ghost use lib.ListN.{length};
 ghost use Rattle.machine.specs.Machine.{whole-run, stack-after};
 ghost use Rattle.machine.specs.Machine as M;
 ghost use Rattle.machine.specs.Promise.{lends, Reported, Ran};
+use instruction::endings;
 use state::Move;
 use state::State;
 
-mod arith;
 mod decimal;
-mod decode;
-mod endings;
 mod print;
 mod stack;
 mod state;

@@ -6,13 +6,13 @@ ghost use lib.ListN.{length};
 ghost use lib.Seq.{paste};
 ghost use Prim.Native.Nat.{ℕ, _+_, _≤_};
 ghost use Rattle.machine.specs.Machine.{Lent, Outside, does, printed, written, quoted, string-from};
-ghost use Rattle.machine.specs.Instructions.{print-int};
+ghost use Rattle.instruction.specs.Instructions.{print-int};
 ghost use Rattle.machine.specs.Coded.{Ready, Printing, Prints, Stepped};
 use super::decimal::put_decimal;
-use super::endings;
 use super::state::Move;
 use super::state::State;
 use super::state::moved;
+use instruction::endings;
 use lexeme::Such;
 
 // Bytes at a place with room for them.

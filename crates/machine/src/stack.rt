@@ -5,17 +5,18 @@ ghost use lib.IntN.{ℤ};
 ghost use lib.ListN.{length};
 ghost use Prim.Native.Nat.{ℕ, _<_};
 ghost use Rattle.machine.specs.Machine.{Lent, Outside, does, resulting, pairs};
-ghost use Rattle.machine.specs.Instructions.{push-int, load-stack, store-stack, jump, jump-if-false, two-sided, negate, not, read};
-ghost use Rattle.machine.specs.Coded.{as-result, as-two-sided, live, Ready, Does};
-use super::arith::Calculated;
-use super::arith::Operator;
-use super::arith::calculate;
-use super::arith::in_range;
-use super::arith::truth;
-use super::endings;
+ghost use Rattle.instruction.specs.Instructions.{push-int, load-stack, store-stack, jump, jump-if-false, two-sided, negate, not, read};
+ghost use Rattle.instruction.specs.Coded.{as-result, as-two-sided};
+ghost use Rattle.machine.specs.Coded.{live, Ready, Does};
 use super::state::Move;
 use super::state::State;
 use super::state::moved;
+use instruction::arith::Calculated;
+use instruction::arith::Operator;
+use instruction::arith::calculate;
+use instruction::arith::in_range;
+use instruction::arith::truth;
+use instruction::endings;
 
 // What a calculation gives, on the d lowest cells.
 fn put(s: State, stack: &mut [i32], d: usize, n: Calculated) -> Move

@@ -4,13 +4,13 @@ ghost use Prim.Native.Nat.{_≤_};
 ghost use Rattle.machine.specs.Machine as M;
 ghost use Rattle.machine.specs.Promise.{lends};
 ghost use Rattle.machine.specs.Coded.{Stepped};
-use super::decode::Op;
-use super::decode::decode;
-use super::endings;
 use super::print;
 use super::stack;
 use super::state::Move;
 use super::state::State;
+use instruction::decode::Op;
+use instruction::decode::decode;
+use instruction::endings;
 
 pub fn step(
     s: State,

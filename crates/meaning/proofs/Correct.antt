@@ -11,9 +11,9 @@ use lib.ListN.{length}
 use Rattle.lexeme.specs.Lexemes as L
 use Rattle.sentence.specs.Sentences.{Kind, Sen, factor, term, expression, condition, command, commands, literal, variable, bracket, first, multiply, unsigned, signed, add, negated, compare, print, print-line, print-string, declare, input, assign, error, while, when, block, single, then}
 use Rattle.sentence.specs.Parts.{Each}
-use Rattle.machine.specs.Endings.{stopped-by-ERROR}
-use Rattle.machine.specs.Numbers.{Two-sided, calculate, in-range}
-use Rattle.machine.specs.Instructions.{two-sided, jump, jump-if-false}
+use Rattle.instruction.specs.Endings.{stopped-by-ERROR}
+use Rattle.instruction.specs.Numbers.{Two-sided, calculate, in-range}
+use Rattle.instruction.specs.Instructions.{two-sided, jump, jump-if-false}
 use Rattle.machine.specs.Machine.{Lent, pairs, does, fetched}
 use Rattle.meaning.specs.Layout.{of-mul, of-sign, of-rel, size, code, need}
 use Rattle.meaning.specs.Fits.{Fits}

@@ -10,7 +10,7 @@ use lib.Dec.{lit<}
 use lib.ListN.{length, getElem?, replicate, length-append}
 use Rattle.lexeme.specs.Lexemes as L
 use Rattle.sentence.specs.Sentences.{Kind, Sen, command, literal, variable, bracket, first, multiply, unsigned, signed, add, negated, compare, print, print-line, print-string, declare, input, assign, error, while, when, block, single, then}
-use Rattle.machine.specs.Instructions.{Instruction}
+use Rattle.instruction.specs.Instructions.{Instruction}
 use Rattle.machine.specs.Machine.{Lent, fetched}
 use Rattle.machine.proofs.Pairs.{Sound, All-sound}
 use Rattle.meaning.specs.Layout.{size, code, program-code}

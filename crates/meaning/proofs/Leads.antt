@@ -9,9 +9,9 @@ use native.Mathlib.Omega.{arith}
 use lib.IntN.{ℤ}
 use lib.ListN.{length}
 use borrow.Author.Tests.{lt-ltb}
-use Rattle.machine.specs.Endings.{no-reading-left, print-does-not-fit}
-use Rattle.machine.specs.Numbers.{Result, value, ends, is-false, negation, decimal}
-use Rattle.machine.specs.Instructions.{Instruction, halt, push-int, load-stack, store-stack, jump, jump-if-false, not, read, print-int, print-str, print-str-ln}
+use Rattle.instruction.specs.Endings.{no-reading-left, print-does-not-fit}
+use Rattle.instruction.specs.Numbers.{Result, value, ends, is-false, negation, decimal}
+use Rattle.instruction.specs.Instructions.{Instruction, halt, push-int, load-stack, store-stack, jump, jump-if-false, not, read, print-int, print-str, print-str-ln}
 use Rattle.machine.specs.Machine.{Lent, Outside, string-from, reading, one-used, printed, Step, go, stop, pushed, resulting, pairs, jumped, taken, written, quoted, does, decoded, fetched, step, End, run}
 use Rattle.meaning.specs.Meaning.{Store, Outcome, done, ended, Act, after, _>>=_, _>>_, give, end-with, unit, result, value-of, assigned, next-reading, write}
 use Rattle.meaning.proofs.Cells.{cells, deep, peek-below, poke-below}

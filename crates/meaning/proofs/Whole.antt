@@ -8,8 +8,8 @@ use lib.IntN.{ℤ, pos}
 use lib.ListN.{replicate, length-replicate}
 use borrow.Author.Tests.{lt-ltb}
 use Rattle.sentence.specs.Sentences.{Sen, command}
-use Rattle.machine.specs.Endings.{normal}
-use Rattle.machine.specs.Instructions.{halt, push-int, numbers}
+use Rattle.instruction.specs.Endings.{normal}
+use Rattle.instruction.specs.Instructions.{halt, push-int, numbers}
 use Rattle.machine.specs.Machine.{Lent, untouched, pushed, pairs, does, End, run, report, whole-run}
 use Rattle.machine.proofs.Pairs.{even, pairs-are, fetched-is}
 use Rattle.meaning.specs.Layout.{size, program-code, program-need}

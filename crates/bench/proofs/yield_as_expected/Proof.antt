@@ -7,8 +7,8 @@ use Rattle.lexeme.specs.Lexemes as Lexemes
 use Rattle.sentence.specs.Sentences as Sentences
 use Rattle.sentence.specs.Reader as Reader
 use Rattle.names.specs.Names as Names
-use Rattle.machine.specs.Numbers as Numbers
-use Rattle.machine.specs.Instructions as Instructions
+use Rattle.instruction.specs.Numbers as Numbers
+use Rattle.instruction.specs.Instructions as Instructions
 use Rattle.machine.specs.Machine as Machine
 use Rattle.meaning.specs.Layout as Layout
 use Rattle.compiler.specs.Compiled as Compiled

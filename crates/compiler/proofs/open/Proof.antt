@@ -6,7 +6,7 @@ use native.Mathlib.Omega.{arith}
 use borrow.Author.Needs.{needs}
 use lib.IntN.{pos}
 use lib.ListN.{length, replicate}
-use Rattle.machine.specs.Instructions.{push-int, pair}
+use Rattle.instruction.specs.Instructions.{push-int, pair}
 use Rattle.compiler.specs.Tables.{emit, opening}
 use Rattle.compiler.proofs.Stores.{emit-on, emit-out}
 use Rattle.compiler.proofs.open.Statement.{statement}

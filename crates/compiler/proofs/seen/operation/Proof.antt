@@ -1,6 +1,6 @@
 -- `compiler::seen::operation` meets its contract. Assumes nothing.
 use borrow.Author.Tests.{ne-eqb}
-use Rattle.machine.specs.Instructions.{number}
+use Rattle.instruction.specs.Instructions.{number}
 use Rattle.compiler.specs.Steps.{operation-number}
 use Rattle.compiler.proofs.seen.operation.Statement.{statement}
 use Rattle.compiler.proofs.seen.operation.Tie as tie

@@ -5,7 +5,7 @@ use borrow.Author.Needs.{needs}
 use lib.IntN.{pos, negℤ, +ℤ-idl}
 use lib.Signed.{ltZ}
 use mir.Facts.{toZ-ofZ, fits-natAbs}
-use Rattle.machine.proofs.Signed.{back, widens, wide-negate, not-below}
+use Rattle.instruction.proofs.Signed.{back, widens, wide-negate, not-below}
 use Rattle.machine.proofs.Digits.{neg-nonNeg, neg-natAbs}
 use Rattle.machine.proofs.decimal.distance.Statement.{statement}
 use Rattle.machine.proofs.decimal.distance.Tie as tie

@@ -9,7 +9,7 @@ use lib.ListN.{length, take, drop, length-drop}
 use lib.Seq.{take-all}
 use mir.Syntax.{w32}
 use mir.Facts.{toZ-ofZ}
-use Rattle.machine.specs.Instructions.{print-int}
+use Rattle.instruction.specs.Instructions.{print-int}
 use Rattle.machine.specs.Machine.{does}
 use Rattle.machine.proofs.Cells.{live-none, live-top}
 use Rattle.machine.proofs.Steps.{stops, also}

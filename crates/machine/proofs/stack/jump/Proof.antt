@@ -2,7 +2,7 @@
 use mathlib.Core.Path.{refl}
 use borrow.Author.Needs.{needs}
 use borrow.Author.Tests.{lt-ltb, le-ltb}
-use Rattle.machine.specs.Instructions.{jump}
+use Rattle.instruction.specs.Instructions.{jump}
 use Rattle.machine.specs.Machine.{does, jumped}
 use Rattle.machine.proofs.Steps.{stops, goes}
 use Rattle.machine.proofs.stack.jump.Statement.{statement}

@@ -8,9 +8,9 @@ use borrow.Author.Tests.{lt-ltb, le-ltb}
 use denote.Ref.{now}
 use lib.IntN.{pos}
 use lib.ListN.{getD}
-use Rattle.machine.specs.Instructions.{jump-if-false}
+use Rattle.instruction.specs.Instructions.{jump-if-false}
 use Rattle.machine.specs.Machine.{does, jumped}
-use Rattle.machine.proofs.Signed.{false-is, false-not}
+use Rattle.instruction.proofs.Signed.{false-is, false-not}
 use Rattle.machine.proofs.Cells.{live-none, live-top}
 use Rattle.machine.proofs.Steps.{stops, goes}
 use Rattle.machine.proofs.stack.jump_if_false.Statement.{statement}

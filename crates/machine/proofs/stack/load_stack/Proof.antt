@@ -4,7 +4,7 @@ use borrow.Author.Tests.{lt-ltb, le-ltb}
 use denote.Ref.{now}
 use mir.Syntax.{w32}
 use mir.Facts.{toZ-ofZ}
-use Rattle.machine.specs.Instructions.{load-stack}
+use Rattle.instruction.specs.Instructions.{load-stack}
 use Rattle.machine.specs.Machine.{does}
 use Rattle.machine.proofs.Cells.{length-live, peek-live}
 use Rattle.machine.proofs.Steps.{stops, also}

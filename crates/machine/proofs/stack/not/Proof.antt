@@ -6,10 +6,10 @@ use lib.IntN.{pos}
 use lib.ListN.{getD}
 use mir.Syntax.{w32}
 use mir.Facts.{toZ-ofZ}
-use Rattle.machine.specs.Numbers.{negation}
-use Rattle.machine.specs.Instructions.{not}
+use Rattle.instruction.specs.Numbers.{negation}
+use Rattle.instruction.specs.Instructions.{not}
 use Rattle.machine.specs.Machine.{does, resulting}
-use Rattle.machine.proofs.Signed.{zero-test}
+use Rattle.instruction.proofs.Signed.{zero-test}
 use Rattle.machine.proofs.Cells.{live-none, live-top}
 use Rattle.machine.proofs.Steps.{stops, also}
 use Rattle.machine.proofs.stack.not.Statement.{statement}

@@ -1,7 +1,7 @@
 -- `stack::push_int` meets its contract. Assumes nothing.
 use borrow.Author.Needs.{needs}
 use mir.Facts.{toZ-ofZ}
-use Rattle.machine.specs.Instructions.{push-int}
+use Rattle.instruction.specs.Instructions.{push-int}
 use Rattle.machine.specs.Machine.{does, pushed, resulting}
 use Rattle.machine.proofs.Steps.{stops, full, free, also}
 use Rattle.machine.proofs.stack.push_int.Statement.{statement}

@@ -4,7 +4,7 @@ use borrow.Author.Needs.{needs}
 use denote.Ref.{now}
 use mir.Syntax.{w32}
 use mir.Facts.{toZ-ofZ}
-use Rattle.machine.specs.Instructions.{read}
+use Rattle.instruction.specs.Instructions.{read}
 use Rattle.machine.specs.Machine.{does, resulting, taken, reading, one-used}
 use Rattle.machine.proofs.Steps.{stops, full, free, also, no-more, one-more}
 use Rattle.machine.proofs.stack.read.Statement.{statement}

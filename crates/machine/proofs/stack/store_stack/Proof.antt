@@ -9,7 +9,7 @@ use lib.IntN.{pos}
 use lib.ListN.{getD, set, length-set}
 use mir.Syntax.{w32}
 use mir.Facts.{toZ-ofZ}
-use Rattle.machine.specs.Instructions.{store-stack}
+use Rattle.instruction.specs.Instructions.{store-stack}
 use Rattle.machine.specs.Machine.{does}
 use Rattle.machine.proofs.Cells.{length-live, live-none, live-top, poke-live}
 use Rattle.machine.proofs.Steps.{stops, goes}

@@ -7,10 +7,10 @@ use lib.IntN.{pos}
 use lib.ListN.{getD}
 use mir.Syntax.{w32}
 use mir.Facts.{toZ-ofZ}
-use Rattle.machine.specs.Numbers.{calculate}
-use Rattle.machine.specs.Instructions.{two-sided}
+use Rattle.instruction.specs.Numbers.{calculate}
+use Rattle.instruction.specs.Instructions.{two-sided}
 use Rattle.machine.specs.Machine.{does}
-use Rattle.machine.specs.Coded.{as-result, as-two-sided}
+use Rattle.instruction.specs.Coded.{as-result, as-two-sided}
 use Rattle.machine.proofs.Cells.{live-two}
 use Rattle.machine.proofs.Steps.{stops, also, too-few}
 use Rattle.machine.proofs.stack.two_sided.Statement.{statement}

@@ -11,10 +11,11 @@ use mir.Syntax.{w32}
 use mir.Val.{SFits}
 use mir.Facts.{toZ-ofZ}
 use Rattle.machine.specs.Machine as M
-use Rattle.machine.specs.declared.decode.Op.{Op}
-use Rattle.machine.specs.declared.decode.Op.the-variants.{Bad, Halt, PushInt, LoadStack, StoreStack, Jump, JumpIfFalse, Two, Negate, Not, Read, PrintInt, PrintStr, PrintStrLn}
+use Rattle.instruction.specs.declared.decode.Op.{Op}
+use Rattle.instruction.specs.declared.decode.Op.the-variants.{Bad, Halt, PushInt, LoadStack, StoreStack, Jump, JumpIfFalse, Two, Negate, Not, Read, PrintInt, PrintStr, PrintStrLn}
 use Rattle.machine.specs.declared.state.Move.{Move}
-use Rattle.machine.specs.Coded.{as-instruction, Stepped}
+use Rattle.instruction.specs.Coded.{as-instruction}
+use Rattle.machine.specs.Coded.{Stepped}
 use Rattle.machine.specs.Promise.{lends}
 use Rattle.machine.proofs.Steps.{stops, also}
 use Rattle.machine.proofs.step.step.Statement.{statement}

@@ -1,6 +1,6 @@
 -- `scan::natural` meets its contract, which only asks that it is safe. Assumes nothing.
 use mir.Facts.{toZ-ofZ, fits-natAbs}
-use Rattle.machine.proofs.Signed.{not-below}
+use Rattle.instruction.proofs.Signed.{not-below}
 use borrow.Author.Needs.{needs}
 use Rattle.machine_test.proofs.scan.natural.Statement.{statement}
 use Rattle.machine_test.proofs.scan.natural.Tie as tie

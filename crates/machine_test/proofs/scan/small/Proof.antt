@@ -1,6 +1,6 @@
 -- `scan::small` meets its contract, which only asks that it is safe. Assumes nothing.
 use mir.Facts.{toZ-ofZ}
-use Rattle.machine.proofs.Signed.{inside}
+use Rattle.instruction.proofs.Signed.{inside}
 use borrow.Author.Needs.{needs}
 use Rattle.machine_test.proofs.scan.small.Statement.{statement}
 use Rattle.machine_test.proofs.scan.small.Tie as tie

@@ -6,7 +6,7 @@ use lib.Dec.{lit<}
 use lib.IntN.{pos, negℤ, +ℤ-idl}
 use mir.Syntax.{w64}
 use mir.Facts.{toZ-pos}
-use Rattle.machine.proofs.Signed.{small-negate}
+use Rattle.instruction.proofs.Signed.{small-negate}
 use borrow.Author.Needs.{needs}
 use Rattle.machine_test.proofs.scan.worth.Statement.{statement}
 use Rattle.machine_test.proofs.scan.worth.Tie as tie

@@ -5,7 +5,7 @@ use mathlib.Core.Option.{Option, none, some}
 use Prim.Native.Nat.{ℕ}
 use lib.Dec.{ltb, eqb}
 use lib.IntN.{ℤ, pos, negsuc}
-use Rattle.machine.specs.Numbers.{Two-sided, plus, minus, times, divide, equals, smaller, greater, is-false}
+use Rattle.instruction.specs.Numbers.{Two-sided, plus, minus, times, divide, equals, smaller, greater, is-false}
 
 pub data Instruction : Type 0 where
   halt : ℕ → Instruction

@@ -3,10 +3,10 @@ use mathlib.Core.Path.{refl, _∙_}
 use borrow.Author.Needs.{needs}
 use mir.Facts.{toZ-ofZ}
 use mir.Syntax.{w32}
-use Rattle.machine.specs.Numbers.{calculate}
-use Rattle.machine.proofs.Signed.{back, widens, bits-pos, false-is, false-not, same-bits, wide-add, wide-sub, wide-mul, wide-quot}
-use Rattle.machine.proofs.arith.calculate.Statement.{statement}
-use Rattle.machine.proofs.arith.calculate.Tie as tie
+use Rattle.instruction.specs.Numbers.{calculate}
+use Rattle.instruction.proofs.Signed.{back, widens, bits-pos, false-is, false-not, same-bits, wide-add, wide-sub, wide-mul, wide-quot}
+use Rattle.instruction.proofs.arith.calculate.Statement.{statement}
+use Rattle.instruction.proofs.arith.calculate.Tie as tie
 
 cast-x : tie.Need-cast-x
 cast-x c = widens (c .fits .a)

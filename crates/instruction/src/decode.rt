@@ -4,8 +4,8 @@ ghost use mathlib.Core.Bool.{cond};
 ghost use mathlib.Core.Option.{none};
 ghost use lib.Dec.{eqb};
 ghost use lib.IntN.{pos};
-ghost use Rattle.machine.specs.Instructions.{halting, decode};
-ghost use Rattle.machine.specs.Coded.{as-instruction};
+ghost use Rattle.instruction.specs.Instructions.{halting, decode};
+ghost use Rattle.instruction.specs.Coded.{as-instruction};
 use super::arith::Operator;
 
 pub enum Op {

@@ -7,12 +7,12 @@ use lib.IntN.{pos, natAbs}
 use mir.Syntax.{w32}
 use mir.Val.{toZ, ofZ}
 use mir.Facts.{toZ-ofZ, fits-natAbs}
-use Rattle.machine.specs.Numbers.{is-false}
-use Rattle.machine.specs.Instructions.{alone, natural, operation, decode}
-use Rattle.machine.proofs.Signed.{from-bits, not-below}
-use Rattle.machine.proofs.Codes.{decodes, no-operation, bad-below}
-use Rattle.machine.proofs.decode.decode.Statement.{statement}
-use Rattle.machine.proofs.decode.decode.Tie as tie
+use Rattle.instruction.specs.Numbers.{is-false}
+use Rattle.instruction.specs.Instructions.{alone, natural, operation, decode}
+use Rattle.instruction.proofs.Signed.{from-bits, not-below}
+use Rattle.instruction.proofs.Codes.{decodes, no-operation, bad-below}
+use Rattle.instruction.proofs.decode.decode.Statement.{statement}
+use Rattle.instruction.proofs.decode.decode.Tie as tie
 
 -- operation k, past the test of the operand's sign
 here : (c : tie.Else1) (k : ℕ) → k < 20 → ofZ w32 (c .before .args .operation) ≡ k → operation k (pos (natAbs (toZ w32 (ofZ w32 (c .before .args .a))))) ≡ decode (c .before .args .operation) (c .before .args .a)

@@ -1,9 +1,9 @@
 -- `decode::halting` meets its contract. Assumes nothing.
 use borrow.Author.Tests.{lt-ltb, le-ltb}
-use Rattle.machine.specs.Instructions.{halting}
+use Rattle.instruction.specs.Instructions.{halting}
 use borrow.Author.Needs.{needs}
-use Rattle.machine.proofs.decode.halting.Statement.{statement}
-use Rattle.machine.proofs.decode.halting.Tie as tie
+use Rattle.instruction.proofs.decode.halting.Statement.{statement}
+use Rattle.instruction.proofs.decode.halting.Tie as tie
 
 cast-t4 : tie.Need-cast-t4
 cast-t4 c = search needs

@@ -1,7 +1,7 @@
 -- `decode::alone` meets its contract. Assumes nothing.
 use borrow.Author.Tests.{eq-eqb, ne-eqb}
-use Rattle.machine.proofs.decode.alone.Statement.{statement}
-use Rattle.machine.proofs.decode.alone.Tie as tie
+use Rattle.instruction.proofs.decode.alone.Statement.{statement}
+use Rattle.instruction.proofs.decode.alone.Tie as tie
 
 returns : tie.Need-returns
 returns c = rw (eq-eqb (c .before .args .n) 0 (c .if1 .taken))

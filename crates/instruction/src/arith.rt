@@ -1,7 +1,7 @@
 // Signed 32-bit numbers: computed at 64 bits, where nothing is lost, and brought back by one test of the range.
 ghost use mathlib.Core.Path.{_≡_};
-ghost use Rattle.machine.specs.Numbers.{in-range, calculate, truth};
-ghost use Rattle.machine.specs.Coded.{as-result, as-two-sided};
+ghost use Rattle.instruction.specs.Numbers.{in-range, calculate, truth};
+ghost use Rattle.instruction.specs.Coded.{as-result, as-two-sided};
 use super::endings;
 
 pub enum Calculated {

@@ -12,9 +12,9 @@ use mir.Syntax.{w32}
 use mir.Val.{SFits, toZ, ofZ}
 use mir.Facts.{toZ-ofZ}
 use borrow.Author.Tests.{ne-eqb, ltb-true}
-use Rattle.machine.specs.Numbers.{is-false}
-use Rattle.machine.specs.Instructions.{Instruction, alone, natural, halting, operation, decode}
-use Rattle.machine.proofs.Signed.{from-bits, not-below}
+use Rattle.instruction.specs.Numbers.{is-false}
+use Rattle.instruction.specs.Instructions.{Instruction, alone, natural, halting, operation, decode}
+use Rattle.instruction.proofs.Signed.{from-bits, not-below}
 
 natural-is : (a : ℤ) → T (nonNeg a) → a ≡ pos (natAbs a)
 natural-is (pos n) t = refl

@@ -1,0 +1,4 @@
+pub mod Endings
+pub mod Numbers
+pub mod Instructions
+pub mod Coded
