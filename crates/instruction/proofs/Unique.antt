@@ -1,0 +1,84 @@
+-- What the code holds tells results and instructions apart, so that the contracts of `in_range`, `calculate` and `decode` leave one answer each. Assumes nothing.
+use mathlib.Core.Path.{_≡_, refl, sym, ap, _∙_}
+use mathlib.Core.Option.{Option, none, some}
+use Rattle.instruction.specs.Numbers.{Result, value, ends, Two-sided, plus, minus, times, divide, equals, smaller, greater}
+use Rattle.instruction.specs.Instructions.{Instruction, halt, push-int, load-stack, store-stack, jump, jump-if-false, two-sided, negate, not, read, print-int, print-str, print-str-ln}
+use Rattle.instruction.specs.Coded.{as-result, as-two-sided, as-instruction}
+use Rattle.instruction.specs.declared.arith.Calculated.{Calculated}
+use Rattle.instruction.specs.declared.arith.Calculated.the-variants.{Value, Ends}
+use Rattle.instruction.specs.declared.arith.Operator.{Operator}
+use Rattle.instruction.specs.declared.arith.Operator.the-variants.{Plus, Minus, Times, Divide, Equals, Smaller, Greater}
+use Rattle.instruction.specs.declared.decode.Op.{Op}
+use Rattle.instruction.specs.declared.decode.Op.the-variants.{Bad, Halt, PushInt, LoadStack, StoreStack, Jump, JumpIfFalse, Two, Negate, Not, Read, PrintInt, PrintStr, PrintStrLn}
+
+-- two things with one image agree where something leads back from it
+same-by : {A B : Type 0} (f : A → B) (back : B → A) → ((a : A) → back (f a) ≡ a) → (a b : A) → f a ≡ f b → a ≡ b
+same-by f back h a b e = sym (h a) ∙ ap back e ∙ h b
+
+-- ---- results
+
+abbrev result-back : Result → Calculated
+result-back (value v) = Value v
+result-back (ends e) = Ends e
+
+result-again : (r : Calculated) → result-back (as-result r) ≡ r
+result-again (Value v) = refl
+result-again (Ends e) = refl
+
+pub one-result : (r s : Calculated) → as-result r ≡ as-result s → r ≡ s
+one-result = same-by as-result result-back result-again
+
+-- ---- instructions
+
+abbrev operator-back : Two-sided → Operator
+operator-back plus = Plus
+operator-back minus = Minus
+operator-back times = Times
+operator-back divide = Divide
+operator-back equals = Equals
+operator-back smaller = Smaller
+operator-back greater = Greater
+
+operator-again : (k : Operator) → operator-back (as-two-sided k) ≡ k
+operator-again Plus = refl
+operator-again Minus = refl
+operator-again Times = refl
+operator-again Divide = refl
+operator-again Equals = refl
+operator-again Smaller = refl
+operator-again Greater = refl
+
+abbrev op-back : Option Instruction → Op
+op-back none = Bad
+op-back (some (halt h)) = Halt h
+op-back (some (push-int v)) = PushInt v
+op-back (some (load-stack k)) = LoadStack k
+op-back (some (store-stack k)) = StoreStack k
+op-back (some (jump a)) = Jump a
+op-back (some (jump-if-false a)) = JumpIfFalse a
+op-back (some (two-sided t)) = Two (operator-back t)
+op-back (some negate) = Negate
+op-back (some not) = Not
+op-back (some read) = Read
+op-back (some print-int) = PrintInt
+op-back (some (print-str q)) = PrintStr q
+op-back (some (print-str-ln q)) = PrintStrLn q
+
+op-again : (o : Op) → op-back (as-instruction o) ≡ o
+op-again Bad = refl
+op-again (Halt h) = refl
+op-again (PushInt v) = refl
+op-again (LoadStack k) = refl
+op-again (StoreStack k) = refl
+op-again (Jump a) = refl
+op-again (JumpIfFalse a) = refl
+op-again (Two k) = ap Two (operator-again k)
+op-again Negate = refl
+op-again Not = refl
+op-again Read = refl
+op-again PrintInt = refl
+op-again (PrintStr q) = refl
+op-again (PrintStrLn q) = refl
+
+pub one-instruction : (o p : Op) → as-instruction o ≡ as-instruction p → o ≡ p
+one-instruction = same-by as-instruction op-back op-again
