@@ -125,10 +125,10 @@ pub fn compile(text: &[u8], table: &mut [i32]) -> Answer
     ensures { λ sizes r. do ⌜ Says (compiled (record { text = (← ⟦Limits::TEXT⟧ .entry); sizes = sizes; nesting = (← ⟦Limits::NESTING⟧ .entry); declarations = (← ⟦Limits::DECLARATIONS⟧ .entry); instructions = (← ⟦Limits::INSTRUCTIONS⟧ .entry) }) (now (text .entry)) (length (now (table .entry)))) (length (now (table .entry))) r (now (table .exit)) ⌝ }
 {
     clear(table);
-    if lexeme::too_long(text) {
+    if lexer::too_long(text) {
         return Answer::Refused(1, 0);
     }
-    let f = lexeme::scan(text);
+    let f = lexer::scan(text);
     let Found::Refused(n, p) = f else {
         return sentences(text, table);
     };

@@ -17,7 +17,7 @@ pub fn look(text: &[u8], at: usize) -> Lexeme
     requires { do ⌜ Clean (record { word = (← ⟦Limits::WORD⟧); string = (← ⟦Limits::STRING⟧); literal = (← ⟦Limits::LITERAL⟧) }) (now text) at ⌝ }
     ensures { λ r. ⌜ Looks (now (text .entry)) at r ⌝ }
 {
-    let Found::Is(l) = lexeme::next(text, at) else {
+    let Found::Is(l) = lexer::next(text, at) else {
         return Lexeme {
             kind: Kind::Fixed(fixed::END),
             place: text.len(),

@@ -46,7 +46,7 @@ fn say_last(found: Found) {
 fn say_lexemes(text: &[u8]) {
     let mut at = 0;
     loop {
-        let found = lexeme::next(text, at);
+        let found = lexer::next(text, at);
         let Found::Is(l) = found else {
             say_last(found);
             return;
@@ -62,7 +62,7 @@ fn show(label: &[u8], text: &[u8]) {
     say(b":");
     say_lexemes(text);
     say(b"; scan");
-    say_last(lexeme::scan(text));
+    say_last(lexer::scan(text));
     say(b"\n");
 }
 
@@ -168,7 +168,7 @@ fn strings() {
 
 fn say_long(label: &[u8], text: &[u8]) {
     say(label);
-    if lexeme::too_long(text) {
+    if lexer::too_long(text) {
         say(b": too long\n");
     } else {
         say(b": not too long\n");

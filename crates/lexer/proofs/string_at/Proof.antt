@@ -1,11 +1,11 @@
--- `lexeme::string_at` meets its contract. Assumes nothing.
+-- `lexer::string_at` meets its contract. Assumes nothing.
 use mathlib.Core.Path.{ap}
 use borrow.Author.Needs.{needs}
 use Rattle.lexeme.specs.Lexemes.{found}
 use Rattle.lexeme.specs.Coded.{such, kind-of, coded}
 use Rattle.lexeme.proofs.Words.{string-open, string-long, string-fits}
-use Rattle.lexeme.proofs.string_at.Statement.{statement}
-use Rattle.lexeme.proofs.string_at.Tie as tie
+use Rattle.lexer.proofs.string_at.Statement.{statement}
+use Rattle.lexer.proofs.string_at.Tie as tie
 
 add-run-end : tie.Need-add-run-end
 add-run-end c = search needs

@@ -1,14 +1,14 @@
--- `lexeme::word_at` meets its contract. Assumes nothing.
+-- `lexer::word_at` meets its contract. Assumes nothing.
 use mathlib.Core.Path.{_≡_, sym, _∙_}
 use mathlib.Core.List.{List}
 use mathlib.Core.Bool.{Bool}
 use Prim.Native.Nat.{ℕ}
 use Rattle.lexeme.specs.Bytes.{letter, digit, all}
 use Rattle.lexeme.specs.Lexemes.{word}
 use Rattle.lexeme.specs.Coded.{such, coded}
 use borrow.Author.Needs.{needs}
-use Rattle.lexeme.proofs.word_at.Statement.{statement}
-use Rattle.lexeme.proofs.word_at.Tie as tie
+use Rattle.lexer.proofs.word_at.Statement.{statement}
+use Rattle.lexer.proofs.word_at.Tie as tie
 
 -- what a call and a test of it say of all bytes of a word
 tested : (such : ℕ → Bool) (w : List ℕ) (t : Bool) {r : Bool} → r ≡ all such w → r ≡ t → all such w ≡ t

@@ -1,16 +1,16 @@
--- `lexeme::symbol_at` meets its contract: one law for a byte that is one of a list, one for a byte that is none. Assumes nothing.
+-- `lexer::symbol_at` meets its contract: one law for a byte that is one of a list, one for a byte that is none. Assumes nothing.
 use Prim.Native.Nat.{ℕ, _+_}
 use mathlib.Core.Path.{_≡_, refl, ap}
 use mathlib.Core.Logic.{inl, inr}
 use native.Mathlib.Omega.{arith}
 use Rattle.lexeme.specs.Lexemes.{symbols, symbol, found}
 use Rattle.lexeme.specs.Coded.{coded, kind-of, sign-code, mul-code, rel-code, code-of}
 use Rattle.lexeme.specs.declared.Kind.{Kind}
 use Rattle.lexeme.specs.declared.Kind.the-variants.{Sign, Mul, Rel, Fixed}
 use Rattle.lexeme.specs.declared.Found.the-variants.{Is, Refused}
 use Rattle.lexeme.proofs.Symbols.{nil, _also_, one-of, in-range, symbol-none}
-use Rattle.lexeme.proofs.symbol_at.Statement.{statement}
-use Rattle.lexeme.proofs.symbol_at.Tie as tie
+use Rattle.lexer.proofs.symbol_at.Statement.{statement}
+use Rattle.lexer.proofs.symbol_at.Tie as tie
 
 abbrev Said : (ℕ → Kind) → ℕ → ℕ → Type 0
 Said kind p b = Is (record { kind = kind b; place = p; end = p + 1 }) ≡ coded (symbol symbols p b)

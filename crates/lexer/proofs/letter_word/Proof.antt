@@ -1,10 +1,10 @@
--- `lexeme::letter_word` meets its contract. Assumes nothing.
+-- `lexer::letter_word` meets its contract. Assumes nothing.
 use borrow.Author.Tests.{lt-ltb, le-ltb}
 use Rattle.lexeme.specs.Lexemes.{letter-word, found}
 use Rattle.lexeme.specs.Coded.{kind-of, coded}
 use borrow.Author.Needs.{needs}
-use Rattle.lexeme.proofs.letter_word.Statement.{statement}
-use Rattle.lexeme.proofs.letter_word.Tie as tie
+use Rattle.lexer.proofs.letter_word.Statement.{statement}
+use Rattle.lexer.proofs.letter_word.Tie as tie
 
 returns : tie.Need-returns
 unfolding letter-word found coded kind-of

@@ -1,4 +1,4 @@
--- `lexeme::digit_word` meets its contract: the value from `i` on is the whole value, and it only grows. Assumes nothing.
+-- `lexer::digit_word` meets its contract: the value from `i` on is the whole value, and it only grows. Assumes nothing.
 use Prim.Native.Nat.{_+_, _*_, _≤_, _-_}
 use mathlib.Core.Path.{_≡_, refl, sym, _∙_}
 use native.Mathlib.Omega.{arith}
@@ -6,11 +6,11 @@ use borrow.Author.Needs.{needs}
 use borrow.Author.Tests.{lt-ltb, le-ltb}
 use denote.Ref.{now}
 use lib.ListN.{length, drop}
 use Rattle.lexeme.specs.Lexemes.{value, digit-word, found}
 use Rattle.lexeme.specs.Coded.{kind-of, coded}
 use Rattle.lexeme.proofs.Words.{value-on, value-out, value-grows}
-use Rattle.lexeme.proofs.digit_word.Statement.{statement}
-use Rattle.lexeme.proofs.digit_word.Tie as tie
+use Rattle.lexer.proofs.digit_word.Statement.{statement}
+use Rattle.lexer.proofs.digit_word.Tie as tie
 
 abbrev Inv-loop : tie.InvT-loop
 Inv-loop word p e v₀ i₀ v i = (v ≤ 2147483647) × (value v (drop i word) ≡ value 0 word)

@@ -1,4 +1,4 @@
--- `lexeme::next` meets its contract. Assumes nothing.
+-- `lexer::next` meets its contract. Assumes nothing.
 use Prim.Native.Nat.{ℕ}
 use mathlib.Core.List.{List}
 use mathlib.Core.Path.{_≡_, sym, ap, _∙_}
@@ -6,14 +6,14 @@ use native.Mathlib.Omega.{arith}
 use borrow.Author.Tests.{ne-eqb}
 use denote.Ref.{now}
 use lib.ListN.{getD, drop, length-drop}
 use Rattle.lexeme.specs.Bytes.{letter-or-digit}
 use Rattle.lexeme.specs.Lexemes.{Sizes, next}
 use Rattle.lexeme.specs.Coded.{such, coded}
 use Rattle.lexeme.proofs.Runs.{run-part, run-fits}
 use Rattle.lexeme.proofs.Places.{here-end, here-word, here-other, other}
 use borrow.Author.Needs.{needs}
-use Rattle.lexeme.proofs.next.Statement.{statement}
-use Rattle.lexeme.proofs.next.Tie as tie
+use Rattle.lexer.proofs.next.Statement.{statement}
+use Rattle.lexer.proofs.next.Tie as tie
 
 run-end-requires : tie.Need-run-end-requires
 run-end-requires c κs = search needs

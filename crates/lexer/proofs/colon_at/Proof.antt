@@ -1,14 +1,14 @@
--- `lexeme::colon_at` meets its contract. Assumes nothing.
+-- `lexer::colon_at` meets its contract. Assumes nothing.
 use Prim.Native.Nat.{_+_}
 use borrow.Author.Tests.{eq-eqb, ne-eqb}
 use denote.Ref.{now}
 use lib.ListN.{drop-of-length-le}
 use lib.Seq.{drop-cons}
 use Rattle.lexeme.specs.Lexemes.{colon, found}
 use Rattle.lexeme.specs.Coded.{kind-of, coded, code-of}
 use borrow.Author.Needs.{needs}
-use Rattle.lexeme.proofs.colon_at.Statement.{statement}
-use Rattle.lexeme.proofs.colon_at.Tie as tie
+use Rattle.lexer.proofs.colon_at.Statement.{statement}
+use Rattle.lexer.proofs.colon_at.Tie as tie
 
 add-q : tie.Need-add-q
 add-q c = search needs

@@ -1,16 +1,16 @@
--- `lexeme::scan` meets its contract: the scan from `at` on is the whole scan. Assumes nothing.
+-- `lexer::scan` meets its contract: the scan from `at` on is the whole scan. Assumes nothing.
 use Prim.Native.Nat.{_-_}
 use mathlib.Core.Path.{_≡_, sym, ap, _∙_}
 use native.Mathlib.Omega.{arith}
 use borrow.Author.Needs.{needs}
 use denote.Ref.{now}
 use lib.ListN.{length}
 use Rattle.lexeme.specs.Lexemes.{Sizes, lexemes}
 use Rattle.lexeme.specs.Coded.{scanned}
 use Rattle.lexeme.proofs.Places.{found-stands}
 use Rattle.lexeme.proofs.Scans.{rest, rest-whole, scan-on, scan-stop}
-use Rattle.lexeme.proofs.scan.Statement.{statement}
-use Rattle.lexeme.proofs.scan.Tie as tie
+use Rattle.lexer.proofs.scan.Statement.{statement}
+use Rattle.lexer.proofs.scan.Tie as tie
 
 abbrev most : Sizes
 most = record { word = 32; string = 255; literal = 2147483647 }
