@@ -1,11 +1,10 @@
 // Lexemes: their bytes, their kinds, and the keywords.
 ghost use mathlib.Core.Path.{_≡_};
-ghost use Prim.Native.Nat.{ℕ, _+_, _-_, _<_};
-ghost use lib.Dec.{ltb};
+ghost use Prim.Native.Nat.{ℕ, _+_};
 ghost use lib.ListN.{length, drop};
 ghost use Rattle.lexeme.specs.Bytes.{separator, letter, digit, run, all, same};
-ghost use Rattle.lexeme.specs.Lexemes.{keywords, capital-word, starts-small, letter-word, digit-word, word, string-at, symbols, symbol, colon, next, lexemes};
-ghost use Rattle.lexeme.specs.Coded.{such, kind-of, coded, scanned};
+ghost use Rattle.lexeme.specs.Lexemes.{keywords, capital-word, starts-small};
+ghost use Rattle.lexeme.specs.Coded.{such, kind-of};
 
 pub mod fixed;
 
