@@ -1,4 +1,4 @@
-// The limits of document 01. Each stands here and nowhere else: code and contracts read it from here.
+// The numbers of document 01. Each stands here and nowhere else: code and contracts read it from here.
 pub struct Limits {}
 
 impl Limits {
@@ -22,4 +22,18 @@ impl Limits {
 
     // Instructions of a text's code: refusal 8.
     pub const INSTRUCTIONS: usize = 4096;
+}
+
+// What the paper's second program gives a run.
+pub struct Station {}
+
+impl Station {
+    // Steps that a run may take.
+    pub const BUDGET: u32 = 1000000;
+
+    // Bytes of its output room.
+    pub const ROOM: usize = 4096;
+
+    // Readings taken from the input, at most.
+    pub const READINGS: usize = 4096;
 }

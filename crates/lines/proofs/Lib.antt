@@ -1,3 +1,4 @@
 pub mod Adds
 pub mod Decimals
+pub mod Short
 pub mod Tables

@@ -5,3 +5,4 @@ pub mod Correct
 pub mod Whole
 pub mod Later
 pub mod Budget
+pub mod Needs
