@@ -24,17 +24,18 @@ use Rattle.kit.specs.declared.Outcome.{Outcome}
 use Rattle.kit.specs.declared.Outcome.the-variants as outcome
 use Rattle.kit.proofs.Faithful.{faithful}
 
--- a text that was accepted with i instructions and a need of m cells, and the table with its code
-pub record Took (a : A.Answer Accepted) (n i m : ℕ) (table : List ℤ) : Type 0 where
+-- a text that was accepted with i instructions, c cells and a need of m, and the table with its code
+pub record Took (a : A.Answer Accepted) (n i c m : ℕ) (table : List ℤ) : Type 0 where
   pub text : Accepted
   pub is : a ≡ given text
   pub count : length (code-of-text text) ≡ i
+  pub cells : text .cells ≡ c
   pub need : need-of text ≡ m
   pub after : table ≡ table-after n (given text)
 
-module _ {a : A.Answer Accepted} {n i m : ℕ} {table : List ℤ} (t : Took a n i m table) where
+module _ {a : A.Answer Accepted} {n i c m : ℕ} {table : List ℤ} (t : Took a n i c m table) where
   -- the text's own code is the table's first part
-  own-code : take (i * 2) table ≡ numbers (code-of-text (t .text))
+  pub own-code : take (i * 2) table ≡ numbers (code-of-text (t .text))
   unfolding table-after filled
   own-code = rw (t .after) (take-at (numbers (code-of-text (t .text))) _ (i * 2) (length-numbers (code-of-text (t .text)) ∙ ap (λ (x : ℕ). x * 2) (t .count)))
 
@@ -46,13 +47,21 @@ module _ {a : A.Answer Accepted} {n i m : ℕ} {table : List ℤ} (t : Took a n 
   needs h = rw (t .is, ← t .need) (record { comes = stack-too-short (t .text) (omega (arith, t .need)); numbers = t .after })
 
 module _ (limits : Limits) (text : List ℕ) (n : ℕ) {r : Answer} {table : List ℤ} (s : C.Says (compiled limits text n) n r table) where
-  took : {i c m : ℕ} → r ≡ answer.Accepted i c m → Took (compiled limits text n) n i m table
+  pub took : {i c m : ℕ} → r ≡ answer.Accepted i c m → Took (compiled limits text n) n i c m table
   unfolding answer-of need-of
   took {i} {c} {m} is = by (compiled limits text n) (sym is ∙ is-answer limits text n r table s) (s .numbers)
     where
-      by : (a : A.Answer Accepted) → answer.Accepted i c m ≡ answer-of a → table ≡ table-after n a → Took a n i m table
-      by (given x) e t = record { text = x; is = refl; count = cc; need = cc; after = t }
+      by : (a : A.Answer Accepted) → answer.Accepted i c m ≡ answer-of a → table ≡ table-after n a → Took a n i c m table
+      by (given x) e t = record { text = x; is = refl; count = cc; cells = cc; need = cc; after = t }
       by (refused k p) e t = let z : _≡_ {A = ℕ} 0 1 = cc in absurd (omega arith)
+
+  pub refusal : {k p : ℕ} → r ≡ answer.Refused k p → compiled limits text n ≡ refused k p
+  unfolding answer-of
+  refusal {k} {p} is = by (compiled limits text n) (sym is ∙ is-answer limits text n r table s)
+    where
+      by : (a : A.Answer Accepted) → answer.Refused k p ≡ answer-of a → a ≡ refused k p
+      by (given x) e = let z : _≡_ {A = ℕ} 0 1 = cc in absurd (omega arith)
+      by (refused j q) e = cc
 
   pub room : {i c m : ℕ} → r ≡ answer.Accepted i c m → i * 2 ≤ length table
   room is = stands (took is)
@@ -62,15 +71,7 @@ module _ (limits : Limits) (text : List ℕ) (n : ℕ) {r : Answer} {table : Lis
     Comes o stack′ out′ = Says readings budget stack out (compiled limits text n) n o table stack′ out′
 
     pub comes-refused : {k p : ℕ} → r ≡ answer.Refused k p → Comes (outcome.Refused k p) stack out
-    unfolding answer-of
-    comes-refused {k} {p} is = by (compiled limits text n) (sym is ∙ is-answer limits text n r table s) (s .numbers)
-      where
-        by : (a : A.Answer Accepted) → answer.Refused k p ≡ answer-of a → table ≡ table-after n a → Says readings budget stack out a n (outcome.Refused k p) table stack out
-        by (given x) e t = let z : _≡_ {A = ℕ} 0 1 = cc in absurd (omega arith)
-        by (refused j q) e t =
-            let f : k ≡ j = cc in
-            let g : p ≡ q = cc in
-            record { comes = rw (f, g) (refused-so j q); numbers = t }
+    comes-refused {k} {p} is = record { comes = rw (refusal is) (refused-so k p); numbers = s .numbers }
 
     module _ {i c m : ℕ} (is : r ≡ answer.Accepted i c m) where
       pub comes-short : length stack < m → Comes (outcome.Needs m) stack out

@@ -1,16 +1,15 @@
 -- How long the lines can be, so that a page of fixed length holds them. Assumes nothing.
-use mathlib.Core.List.{List, [], _∷_, _++_}
-use Prim.Native.Nat.{ℕ, zero, suc, _+_, _*_, _/_, _≤_, _<_}
+use Prim.Native.Nat.{ℕ, suc, _+_, _≤_, _<_}
 use Prim.Native.String.{String}
 use native.Mathlib.Omega.{arith}
 use lib.IntN.{ℤ, pos, negsuc}
-use lib.ListN.{length, getD, length-append}
-use mir.Syntax.{w32, w64}
+use lib.ListN.{length, length-append}
+use mir.Syntax.{w32}
 use mir.Val.{SFits}
 use Rattle.lexeme.specs.Bytes.{bytes, bytes-from}
 use Rattle.instruction.specs.Numbers.{digits, decimal}
 use Rattle.instruction.proofs.Digits.{few-digits}
-use Rattle.lines.specs.Lines.{counted, refused-line, ending-line, accepted-line, instruction-line, lines-from, table-lines}
+use Rattle.lines.specs.Lines.{counted, refused-line, ending-line, accepted-line, instruction-line}
 
 -- below 2 ^ 64
 abbrev pub Small : ℕ → Type 0
@@ -41,15 +40,6 @@ pub short-accepted : (i c n : ℕ) → Small i → Small c → Small n → lengt
 unfolding accepted-line bytes bytes-from
 short-accepted i c n h j k = simp length-append (omega (arith, short-counted "accepted " i h, short-counted " " c j, short-counted " " n k))
 
--- a line for each pair
-module _ (table : List ℤ) (fit : (i : ℕ) → SFits w32 (getD table i (pos 0))) where
-  short-lines : (n place : ℕ) → Small (place + n) → length (lines-from n place table) ≤ n * 65
-  unfolding lines-from instruction-line bytes bytes-from
-  short-lines zero place h = omega arith
-  short-lines (suc n) place h =
-      simp length-append
-      (omega (arith, short-natural place (omega arith), short-integer (getD table (place * 2) (pos 0)) (fit (place * 2)), short-integer (getD table (place * 2 + 1) (pos 0)) (fit (place * 2 + 1)), short-lines n (suc place) (omega arith)))
-
-  pub short-table : Small (length table) → length (table-lines table) ≤ length table / 2 * 65
-  unfolding table-lines
-  short-table h = short-lines (length table / 2) 0 (omega arith)
+pub short-instruction : (place : ℕ) (operation operand : ℤ) → Small place → SFits w32 operation → SFits w32 operand → length (instruction-line place operation operand) ≤ 65
+unfolding instruction-line bytes bytes-from
+short-instruction place operation operand h f g = simp length-append (omega (arith, short-natural place h, short-integer operation f, short-integer operand g))

@@ -1,6 +1,8 @@
 // Lines, added to a page that is lent. Each function answers the place after what it added; what the page has no room for is left out.
 ghost use mathlib.Core.List.{_++_};
+ghost use Prim.Native.Nat.{_≤_, _*_, _/_};
 ghost use lib.IntN.{pos};
+ghost use lib.ListN.{length};
 ghost use Rattle.instruction.specs.Numbers.{decimal};
 ghost use Rattle.lines.specs.Added.{Added};
 ghost use Rattle.lines.specs.Lines.{refused-line, ending-line, accepted-line, instruction-line, table-lines};
@@ -79,6 +81,7 @@ pub fn accepted(page: &mut [u8], at: usize, instructions: usize, cells: usize, n
 // `PLACE OPERATION OPERAND`
 pub fn instruction(page: &mut [u8], at: usize, place: usize, operation: i32, operand: i32) -> usize
     ensures { λ r. ⌜ Added (instruction-line place operation operand) (now (page .entry)) at (now (page .exit)) r ⌝ }
+    ensures { λ _. ⌜ length (instruction-line place operation operand) ≤ 65 ⌝ }
 {
     let a = put_natural(page, at, place as u64);
     let b = put(page, a, b" ");
@@ -91,6 +94,7 @@ pub fn instruction(page: &mut [u8], at: usize, place: usize, operation: i32, ope
 // A line for each pair of a code table.
 pub fn instructions(page: &mut [u8], at: usize, table: &[i32]) -> usize
     ensures { λ r. ⌜ Added (table-lines (now (table .entry))) (now (page .entry)) at (now (page .exit)) r ⌝ }
+    ensures { λ _. ⌜ length (table-lines (now (table .entry))) ≤ length (now (table .entry)) / 2 * 65 ⌝ }
 {
     let mut next = put(page, at, b"");
     let mut i = 0;

@@ -9,12 +9,12 @@ use lib.ListN.{length, getD}
 use mir.Syntax.{w32}
 use mir.Facts.{toZ-ofZ}
 use Rattle.lines.proofs.Adds.{adds-then, adds-within}
-use Rattle.lines.proofs.Tables.{Leads, lines-start, line-more, lines-out}
+use Rattle.lines.proofs.Tables.{Leads, lines-start, line-more, lines-out, lines-short}
 use Rattle.lines.proofs.instructions.Statement.{statement}
 use Rattle.lines.proofs.instructions.Tie as tie
 
 abbrev Inv-loop : tie.InvT-loop
-Inv-loop page₀ at table next₀ i₀ page next i = Leads table page₀ next₀ page next i × (next ≤ length page) × (length page ≡ length page₀)
+Inv-loop page₀ at table next₀ i₀ page next i = Leads table page₀ next₀ page next i × (next ≤ length page) × (length page ≡ length page₀) × (i ≤ length table / 2)
 
 abbrev μ-loop : tie.MeasureT-loop
 μ-loop page₀ at table next₀ i₀ page next i = length table / 2 - i
@@ -26,7 +26,7 @@ put-requires : tie.Need-put-requires Inv-loop μ-loop
 put-requires c κs = search needs
 
 loop-holds : tie.Need-loop-holds Inv-loop μ-loop
-loop-holds c = (lines-start _ _ _, adds-within (c .before .before .put .ensures), search needs)
+loop-holds c = (lines-start _ _ _, adds-within (c .before .before .put .ensures), search needs, omega arith)
 
 mul-instruction : tie.Need-mul-instruction Inv-loop μ-loop
 mul-instruction c = search needs
@@ -59,14 +59,19 @@ loop-less : tie.Need-loop-less Inv-loop μ-loop
 loop-less c = search needs
 
 loop-again : tie.Need-loop-again Inv-loop μ-loop
-loop-again c = let line = rw (toZ-ofZ {w = w32} {z = getD (now (c .before .before .before .before .before .before .before .before .before .before .before .before .before .before .args .table)) (c .before .before .before .before .before .before .before .loop .i * 2) (pos 0)} (record { sfits = c .before .before .before .before .instruction-arg2 .given }), toZ-ofZ {w = w32} (record { sfits = c .before .before .before .instruction-arg3 .given })) at (c .before .before .instruction .ensures) in
-    (line-more (now (c .before .before .before .before .before .before .before .before .before .before .before .before .before .before .args .table)) (c .before .before .before .before .before .before .before .before .before .before .put .last .0) (c .before .before .before .before .before .before .before .loop .page) (c .before .before .instruction .last .0) (c .before .before .before .before .before .before .before .before .before .before .put .result) (c .before .before .before .before .before .before .before .loop .next) (c .before .before .instruction .result) (c .before .before .before .before .before .before .before .loop .i) (c .before .before .before .before .before .before .loop-test .taken) line (c .before .before .before .before .before .before .before .loop .inv .0), adds-within (c .before .before .instruction .ensures), search needs)
+loop-again c =
+    let line = rw (toZ-ofZ {w = w32} {z = getD (now (c .before .before .before .before .before .before .before .before .before .before .before .before .before .before .args .table)) (c .before .before .before .before .before .before .before .loop .i * 2) (pos 0)} (record { sfits = c .before .before .before .before .instruction-arg2 .given }), toZ-ofZ {w = w32} (record { sfits = c .before .before .before .instruction-arg3 .given })) at (c .before .before .instruction .ensures) in
+    (line-more (now (c .before .before .before .before .before .before .before .before .before .before .before .before .before .before .args .table)) (c .before .before .before .before .before .before .before .before .before .before .put .last .0) (c .before .before .before .before .before .before .before .loop .page) (c .before .before .instruction .last .0) (c .before .before .before .before .before .before .before .before .before .before .put .result) (c .before .before .before .before .before .before .before .loop .next) (c .before .before .instruction .result) (c .before .before .before .before .before .before .before .loop .i) (c .before .before .before .before .before .before .loop-test .taken) (line .0) (line .1) (c .before .before .before .before .before .before .before .loop .inv .0), adds-within (c .before .before .instruction .ensures .0), search needs, omega arith)
 
 same-length : tie.Need-same-length Inv-loop μ-loop
 same-length c = search needs
 
 returns : tie.Need-returns Inv-loop μ-loop
-returns c = adds-then (c .before .before .before .before .put .ensures) (lines-out (now (c .before .before .before .before .before .before .before .before .args .table)) (c .before .before .before .before .put .last .0) (c .before .loop .page) (c .before .before .before .before .put .result) (c .before .loop .next) (c .before .loop .i) (omega arith) (c .before .loop .inv .1) (c .before .loop .inv .0))
+returns c =
+    let e : c .before .loop .i ≡ length (now (c .before .before .before .before .before .before .before .before .args .table)) / 2 = omega arith in (
+      adds-then (c .before .before .before .before .put .ensures) (lines-out (now (c .before .before .before .before .before .before .before .before .args .table)) (c .before .before .before .before .put .last .0) (c .before .loop .page) (c .before .before .before .before .put .result) (c .before .loop .next) (c .before .loop .i) e (c .before .loop .inv .0) (c .before .loop .inv .1)),
+      lines-short (now (c .before .before .before .before .before .before .before .before .args .table)) (c .before .before .before .before .put .last .0) (c .before .loop .page) (c .before .before .before .before .put .result) (c .before .loop .next) (c .before .loop .i) e (c .before .loop .inv .0),
+    )
 
 pub instructions-spec : {M : Type 1} → statement M
 instructions-spec =

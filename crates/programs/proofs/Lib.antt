@@ -1,0 +1,3 @@
+pub mod Lessons
+pub mod Listings
+pub mod Pages

@@ -1,0 +1,35 @@
+-- The listing, from what `compile` promises. Assumes nothing.
+use mathlib.Core.Path.{_≡_, refl}
+use mathlib.Core.List.{List, [], _++_}
+use Prim.Native.Nat.{ℕ, _*_, _≤_}
+use native.Mathlib.Omega.{arith}
+use lib.IntN.{ℤ}
+use lib.ListN.{length, take, length-append}
+use Rattle.limits.specs.Limits.{Limits}
+use Rattle.compiler.specs.declared.Answer.{Answer}
+use Rattle.compiler.specs.declared.Answer.the-variants as answer
+use Rattle.compiler.specs.Answers as C
+use Rattle.compiler.specs.Compiled.{compiled}
+use Rattle.kit.proofs.Comes.{took, own-code, refusal}
+use Rattle.lines.specs.Added.{Added}
+use Rattle.lines.specs.Lines.{refused-line, accepted-line, table-lines}
+use Rattle.lines.proofs.Short.{Small, short-accepted}
+use Rattle.programs.specs.Programs.{listed}
+use Rattle.programs.specs.Says.{Says}
+use Rattle.programs.proofs.Pages.{said-bytes, said-page, untouched}
+
+module _ (limits : Limits) (text : List ℕ) (n : ℕ) {r : Answer} {table : List ℤ} (s : C.Says (compiled limits text n) n r table) {page page′ : List ℕ} {end : ℕ} where
+  pub listed-refused : {k p : ℕ} → r ≡ answer.Refused k p → length (refused-line k p) ≤ length page → Added (refused-line k p) page 0 page′ end → Says (listed (compiled limits text n)) (record { out = end; err = 0; status = 1 }) page page′ [] []
+  unfolding listed
+  listed-refused is short a = rw (refusal limits text n s is) (record { written = said-bytes a short; page = said-page a short; noted = refl; note = untouched []; status = refl })
+
+  module _ {i c m : ℕ} (is : r ≡ answer.Accepted i c m) where
+    pub listed-accepted : length (accepted-line i c m ++ table-lines (take (i * 2) table)) ≤ length page → Added (accepted-line i c m ++ table-lines (take (i * 2) table)) page 0 page′ end → Says (listed (compiled limits text n)) (record { out = end; err = 0; status = 0 }) page page′ [] []
+    unfolding listed
+    listed-accepted short a =
+        let t = took limits text n s is in
+        rw (t .is, t .count, t .cells, t .need, ← own-code t) (record { written = said-bytes a short; page = said-page a short; noted = refl; note = untouched []; status = refl })
+
+-- the accepted line, and a line for each pair of a table of so many numbers at most
+pub listing-short : (i c m : ℕ) (lines : List ℕ) → Small i → Small c → Small m → length lines ≤ 266240 → length (accepted-line i c m ++ lines) ≤ 266336
+listing-short i c m lines h j k few = simp length-append (omega (arith, short-accepted i c m h j k))

@@ -1,0 +1,64 @@
+-- What was added to a page from its beginning, where there is room for all of it, is what is said. Assumes nothing.
+use mathlib.Core.Path.{_≡_, refl, ap, sym, _∙_}
+use mathlib.Core.List.{List, [], _++_}
+use Prim.Native.Nat.{ℕ, _+_, _≤_}
+use native.Mathlib.Omega.{arith}
+use borrow.Author.Tests.{eq-eqb, ne-eqb}
+use lib.ListN.{length, take, drop, length-append, length-take}
+use lib.Seq.{sets-eq}
+use Rattle.machine.specs.Machine.{room-after}
+use Rattle.machine.specs.declared.Report as Code
+use Rattle.lines.specs.Added.{Added}
+use Rattle.lines.specs.Lines.{line-end, refused-line, ending-line}
+use Rattle.lines.proofs.Short.{Small, short-ending}
+use Rattle.programs.specs.Programs.{status-of, told, sent}
+use Rattle.programs.specs.Says.{Says, with-output}
+use Rattle.programs.specs.declared.Came.{Came}
+use Rattle.programs.specs.declared.Came.the-variants as came
+
+module _ {s page page′ : List ℕ} {end : ℕ} (a : Added s page 0 page′ end) (room : length s ≤ length page) where
+  pub said-bytes : end ≡ length s
+  said-bytes = omega (arith, a .next)
+
+  pub said-page : page′ ≡ room-after s page
+  unfolding room-after
+  said-page = let e : 0 + length s ≡ length s = omega arith in a .bytes ∙ (sets-eq s page 0 (omega arith) ∙ rw e)
+
+-- nothing is said on a page that is not lent, or that stays as it was
+pub untouched : (page : List ℕ) → page ≡ room-after [] page
+unfolding room-after
+untouched page = refl
+
+-- ---- how long it is
+
+pub output-short : (k : ℕ) (room : List ℕ) → length (take k room) ≤ length room
+output-short k room = rw (length-take k room) (omega arith)
+
+pub told-short : (k e s : ℕ) (room : List ℕ) → Small e → Small s → length (take k room ++ line-end ++ ending-line e s) ≤ length room + 96
+told-short k e s room h i = simp length-append (omega (arith, output-short k room, short-ending e s h i))
+
+-- ---- what each program says, by what came
+
+module _ (room : List ℕ) {page page′ : List ℕ} {end : ℕ} {c : Came} where
+  module _ {n p : ℕ} (is : c ≡ came.Refused n p) (short : length (refused-line n p) ≤ length page) (a : Added (refused-line n p) page 0 page′ end) where
+    pub told-refused : Says (told (with-output c room)) (record { out = end; err = 0; status = 1 }) page page′ [] []
+    unfolding told with-output
+    told-refused = rw is (record { written = said-bytes a short; page = said-page a short; noted = refl; note = untouched []; status = refl })
+
+    pub sent-refused : {out : List ℕ} → Says (sent (with-output c room)) (record { out = 0; err = end; status = 1 }) out out page page′
+    unfolding sent with-output
+    sent-refused {out} = rw is (record { written = refl; page = untouched out; noted = said-bytes a short; note = said-page a short; status = refl })
+
+  module _ {r : Code.Report} (is : c ≡ came.Ran r) where
+    module _ {status : ℕ} (e : status ≡ status-of (r .ending)) where
+      pub told-ran : length (take (r .length) room ++ line-end ++ ending-line (r .ending) (r .steps)) ≤ length page → Added (take (r .length) room ++ line-end ++ ending-line (r .ending) (r .steps)) page 0 page′ end → Says (told (with-output c room)) (record { out = end; err = 0; status = status }) page page′ [] []
+      unfolding told with-output
+      told-ran short a = rw is (record { written = said-bytes a short; page = said-page a short; noted = refl; note = untouched []; status = e })
+
+    pub sent-ran : {note : List ℕ} → r .ending ≡ 0 → length (take (r .length) room) ≤ length page → Added (take (r .length) room) page 0 page′ end → Says (sent (with-output c room)) (record { out = end; err = 0; status = 0 }) page page′ note note
+    unfolding sent with-output
+    sent-ran {note} e short a = rw (is, eq-eqb (r .ending) 0 e) (record { written = said-bytes a short; page = said-page a short; noted = refl; note = untouched note; status = refl })
+
+    pub sent-not : {out : List ℕ} → (r .ending ≡ 0 → ⊥) → length (ending-line (r .ending) (r .steps)) ≤ length page → Added (ending-line (r .ending) (r .steps)) page 0 page′ end → Says (sent (with-output c room)) (record { out = 0; err = end; status = 1 }) out out page page′
+    unfolding sent with-output
+    sent-not {out} e short a = rw (is, ne-eqb (r .ending) 0 e) (record { written = refl; page = untouched out; noted = said-bytes a short; note = said-page a short; status = refl })

@@ -1,0 +1,87 @@
+-- `programs::listing` meets its contract. Assumes nothing.
+use mathlib.Core.Path.{_≡_, sym}
+use Prim.Native.Nat.{_≤_, _*_}
+use native.Mathlib.Omega.{arith}
+use denote.Ref.{now}
+use lib.ListN.{length, take}
+use lib.Seq.{length-take-le}
+use Rattle.compiler.specs.Compiled.{compiled}
+use Rattle.kit.proofs.Comes.{room}
+use Rattle.lines.specs.Lines.{table-lines}
+use Rattle.lines.proofs.Adds.{adds-then}
+use Rattle.lines.proofs.Short.{Small, short-refused}
+use Rattle.programs.specs.Programs.{judged}
+use Rattle.programs.proofs.Listings.{listed-refused, listed-accepted, listing-short}
+use borrow.Author.Needs.{needs}
+use Rattle.programs.proofs.listing.Statement.{statement}
+use Rattle.programs.proofs.listing.Tie as tie
+
+slice-aggregate-compile : tie.Need-slice-aggregate-compile
+slice-aggregate-compile c = search needs
+
+compile-requires : tie.Need-compile-requires
+compile-requires c κs = search needs
+
+enum-known-a : tie.Need-enum-known-a
+enum-known-a c = search needs
+
+refused-requires : tie.Need-refused-requires
+refused-requires c κs = search needs
+
+enum-known-a-2 : tie.Need-enum-known-a-2
+enum-known-a-2 c = search needs
+
+accepted-requires : tie.Need-accepted-requires
+accepted-requires c κs = search needs
+
+mul-end : tie.Need-mul-end
+mul-end c = omega (arith, room _ _ _ (c .before .before .before .before .before .before .compile .ensures) (c .before .before .before .a2 .given .1))
+
+array-share-prefix-table : tie.Need-array-share-prefix-table
+array-share-prefix-table c = room _ _ _ (c .before .before .before .before .before .before .before .compile .ensures) (c .before .before .before .before .a2 .given .1)
+
+slice-aggregate-instructions : tie.Need-slice-aggregate-instructions
+slice-aggregate-instructions c = sym (length-take-le _ _ (room _ _ _ (c .before .before .before .before .before .before .before .before .compile .ensures) (c .before .before .before .before .before .a2 .given .1)))
+
+instructions-requires : tie.Need-instructions-requires
+instructions-requires c κs = search needs
+
+returns : tie.Need-returns
+unfolding judged compiled
+returns c =
+    let n : Small (c .before .before .before .a .given .0 .0) = search needs in
+    let p : Small (c .before .before .before .a .given .0 .1 .0) = search needs in
+    let l : 96 ≤ length (now (c .before .before .before .before .before .before .before .before .before .args .page)) = search needs in
+    listed-refused _ _ _ (c .before .before .before .before .before .before .compile .ensures) (c .before .before .before .a .given .1) (omega (arith, short-refused (c .before .before .before .a .given .0 .0) (c .before .before .before .a .given .0 .1 .0) n p, l)) (c .refused .ensures)
+
+returns-2 : tie.Need-returns-2
+unfolding judged compiled
+returns-2 c =
+    let i = c .before .before .before .before .before .before .a2 .given .0 .0 in
+    let c′ = c .before .before .before .before .before .before .a2 .given .0 .1 .0 in
+    let m = c .before .before .before .before .before .before .a2 .given .0 .1 .1 .0 in
+    let hi : Small (c .before .before .before .before .before .before .a2 .given .0 .0) = search needs in
+    let hc : Small (c .before .before .before .before .before .before .a2 .given .0 .1 .0) = search needs in
+    let hm : Small (c .before .before .before .before .before .before .a2 .given .0 .1 .1 .0) = search needs in
+    let l : length (now (c .before .before .before .before .before .before .before .before .before .before .before .before .args .page)) ≡ 266336 = search needs in
+    let t : length (c .before .before .before .before .before .before .before .before .before .compile .last .1 .0) ≡ 8192 = search needs in
+    let own = room _ _ _ (c .before .before .before .before .before .before .before .before .before .compile .ensures) (c .before .before .before .before .before .before .a2 .given .1) in
+    let few : length (table-lines (take (i * 2) (c .before .before .before .before .before .before .before .before .before .compile .last .1 .0))) ≤ 266240 = omega (arith, c .instructions .ensures .1, length-take-le (i * 2) (c .before .before .before .before .before .before .before .before .before .compile .last .1 .0) own, t, own) in
+    listed-accepted _ _ _ (c .before .before .before .before .before .before .before .before .before .compile .ensures) (c .before .before .before .before .before .before .a2 .given .1) (omega (arith, listing-short i c′ m (table-lines (take (i * 2) (c .before .before .before .before .before .before .before .before .before .compile .last .1 .0))) hi hc hm few, l)) (adds-then (c .before .before .before .accepted .ensures) (c .instructions .ensures .0))
+
+pub listing-spec : {M : Type 1} → statement M
+listing-spec =
+    tie.close
+    (tie.spec
+    slice-aggregate-compile
+    compile-requires
+    enum-known-a
+    refused-requires
+    enum-known-a-2
+    accepted-requires
+    mul-end
+    array-share-prefix-table
+    slice-aggregate-instructions
+    instructions-requires
+    returns
+    returns-2)

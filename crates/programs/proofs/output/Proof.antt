@@ -1,0 +1,19 @@
+-- `programs::output` meets its contract. Assumes nothing.
+use mathlib.Core.Path.{sym}
+use native.Mathlib.Omega.{arith}
+use lib.Seq.{take-all, length-take-le}
+use borrow.Author.Needs.{needs}
+use Rattle.programs.proofs.output.Statement.{statement}
+use Rattle.programs.proofs.output.Tie as tie
+
+returns : tie.Need-returns
+returns c = sym (take-all _ _ (c .if1 .taken))
+
+slice-aggregate-result : tie.Need-slice-aggregate-result
+slice-aggregate-result c = sym (length-take-le _ _ (omega arith))
+
+returns-2 : tie.Need-returns-2
+returns-2 c = search needs
+
+pub output-spec : {M : Type 1} → statement M
+output-spec = tie.close (tie.spec returns slice-aggregate-result returns-2)

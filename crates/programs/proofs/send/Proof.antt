@@ -1,0 +1,63 @@
+-- `programs::send` meets its contract. Assumes nothing.
+use Rattle.lines.proofs.Short.{Small, short-refused, short-ending}
+use Rattle.programs.proofs.Pages.{sent-refused, sent-ran, sent-not, output-short}
+use native.Mathlib.Omega.{arith}
+use denote.Ref.{now}
+use mathlib.Core.Path.{_≡_}
+use Prim.Native.Nat.{_≤_}
+use lib.ListN.{length}
+use borrow.Author.Needs.{needs}
+use Rattle.programs.proofs.send.Statement.{statement}
+use Rattle.programs.proofs.send.Tie as tie
+
+enum-known-c : tie.Need-enum-known-c
+enum-known-c c = search needs
+
+refused-requires : tie.Need-refused-requires
+refused-requires c κs = search needs
+
+enum-known-c-2 : tie.Need-enum-known-c-2
+enum-known-c-2 c = search needs
+
+output-requires : tie.Need-output-requires
+output-requires c κs = search needs
+
+put-requires : tie.Need-put-requires
+put-requires c κs = search needs
+
+returns : tie.Need-returns
+returns c =
+    let r : length (now (c .before .before .before .before .before .before .before .before .before .args .room)) ≡ 4096 = search needs in
+    let l : length (now (c .before .before .before .before .before .before .before .before .before .args .page)) ≡ 4192 = search needs in
+    sent-ran (now (c .before .before .before .before .before .before .before .before .before .args .room)) (c .before .before .before .before .before .before .before .c2 .given .1) (c .before .before .before .before .if1 .taken) (omega (arith, output-short (c .before .before .before .before .before .before .before .c2 .given .0 .0 .length) (now (c .before .before .before .before .before .before .before .before .before .args .room)), r, l)) (rw (c .before .output .ensures) at (c .put .ensures))
+
+ending-requires : tie.Need-ending-requires
+ending-requires c κs = search needs
+
+returns-2 : tie.Need-returns-2
+returns-2 c =
+    let n : Small (c .before .before .before .c .given .0 .0) = search needs in
+    let p : Small (c .before .before .before .c .given .0 .1 .0) = search needs in
+    let l : 96 ≤ length (now (c .before .before .before .before .before .args .note)) = search needs in
+    sent-refused (now (c .before .before .before .before .before .args .room)) (c .before .before .before .c .given .1) (omega (arith, short-refused (c .before .before .before .c .given .0 .0) (c .before .before .before .c .given .0 .1 .0) n p, l)) (c .refused .ensures)
+
+returns-3 : tie.Need-returns-3
+returns-3 c =
+    let e : Small (c .before .before .before .before .before .c2 .given .0 .0 .ending) = search needs in
+    let n : Small (c .before .before .before .before .before .c2 .given .0 .0 .steps) = search needs in
+    let l : 96 ≤ length (now (c .before .before .before .before .before .before .before .args .note)) = search needs in
+    sent-not (now (c .before .before .before .before .before .before .before .args .room)) (c .before .before .before .before .before .c2 .given .1) (c .before .before .if1 .left) (omega (arith, short-ending (c .before .before .before .before .before .c2 .given .0 .0 .ending) (c .before .before .before .before .before .c2 .given .0 .0 .steps) e n, l)) (c .ending .ensures)
+
+pub send-spec : {M : Type 1} → statement M
+send-spec =
+    tie.close
+    (tie.spec
+    enum-known-c
+    refused-requires
+    enum-known-c-2
+    output-requires
+    put-requires
+    returns
+    ending-requires
+    returns-2
+    returns-3)

@@ -1,0 +1,16 @@
+-- `programs::status_of` meets its contract. Assumes nothing.
+use borrow.Author.Tests.{eq-eqb, ne-eqb}
+use Rattle.programs.specs.Programs.{status-of}
+use Rattle.programs.proofs.status_of.Statement.{statement}
+use Rattle.programs.proofs.status_of.Tie as tie
+
+returns : tie.Need-returns
+unfolding status-of
+returns c = rw (eq-eqb _ 0 (c .if1 .taken))
+
+returns-2 : tie.Need-returns-2
+unfolding status-of
+returns-2 c = rw (ne-eqb _ 0 (c .if1 .left))
+
+pub status-of-spec : {M : Type 1} → statement M
+status-of-spec = tie.close (tie.spec returns returns-2)

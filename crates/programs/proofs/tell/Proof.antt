@@ -1,0 +1,72 @@
+-- `programs::tell` meets its contract. Assumes nothing.
+use Rattle.lines.proofs.Adds.{adds-then}
+use Rattle.lines.proofs.Short.{Small, short-refused}
+use Rattle.programs.proofs.Pages.{told-refused, told-ran, told-short}
+use native.Mathlib.Omega.{arith}
+use denote.Ref.{now}
+use mathlib.Core.Path.{_≡_}
+use Prim.Native.Nat.{_≤_}
+use lib.ListN.{length}
+use borrow.Author.Needs.{needs}
+use Rattle.programs.proofs.tell.Statement.{statement}
+use Rattle.programs.proofs.tell.Tie as tie
+
+enum-known-c : tie.Need-enum-known-c
+enum-known-c c = search needs
+
+refused-requires : tie.Need-refused-requires
+refused-requires c κs = search needs
+
+enum-known-c-2 : tie.Need-enum-known-c-2
+enum-known-c-2 c = search needs
+
+output-requires : tie.Need-output-requires
+output-requires c κs = search needs
+
+put-requires : tie.Need-put-requires
+put-requires c κs = search needs
+
+slice-aggregate-put : tie.Need-slice-aggregate-put
+slice-aggregate-put c = search needs
+
+put-requires-2 : tie.Need-put-requires-2
+put-requires-2 c κs = search needs
+
+ending-requires : tie.Need-ending-requires
+ending-requires c κs = search needs
+
+status-of-requires : tie.Need-status-of-requires
+status-of-requires c κs = search needs
+
+returns : tie.Need-returns
+returns c =
+    let n : Small (c .before .before .before .c .given .0 .0) = search needs in
+    let p : Small (c .before .before .before .c .given .0 .1 .0) = search needs in
+    let l : 96 ≤ length (now (c .before .before .before .before .before .args .page)) = search needs in
+    told-refused (now (c .before .before .before .before .before .args .room)) (c .before .before .before .c .given .1) (omega (arith, short-refused (c .before .before .before .c .given .0 .0) (c .before .before .before .c .given .0 .1 .0) n p, l)) (c .refused .ensures)
+
+returns-2 : tie.Need-returns-2
+returns-2 c =
+    let e : Small (c .before .before .before .before .before .before .before .before .before .before .before .c2 .given .0 .0 .ending) = search needs in
+    let n : Small (c .before .before .before .before .before .before .before .before .before .before .before .c2 .given .0 .0 .steps) = search needs in
+    let r : length (now (c .before .before .before .before .before .before .before .before .before .before .before .before .before .args .room)) ≡ 4096 = search needs in
+    let l : length (now (c .before .before .before .before .before .before .before .before .before .before .before .before .before .args .page)) ≡ 4192 = search needs in
+    told-ran (now (c .before .before .before .before .before .before .before .before .before .before .before .before .before .args .room)) (c .before .before .before .before .before .before .before .before .before .before .before .c2 .given .1) (c .status-of .ensures)
+    (omega (arith, told-short (c .before .before .before .before .before .before .before .before .before .before .before .c2 .given .0 .0 .length) (c .before .before .before .before .before .before .before .before .before .before .before .c2 .given .0 .0 .ending) (c .before .before .before .before .before .before .before .before .before .before .before .c2 .given .0 .0 .steps) (now (c .before .before .before .before .before .before .before .before .before .before .before .before .before .args .room)) e n, r, l))
+    (adds-then (adds-then (rw (c .before .before .before .before .before .before .before .output .ensures) at (c .before .before .before .before .before .before .put .ensures)) (c .before .before .before .put2 .ensures)) (c .before .ending .ensures))
+
+pub tell-spec : {M : Type 1} → statement M
+tell-spec =
+    tie.close
+    (tie.spec
+    enum-known-c
+    refused-requires
+    enum-known-c-2
+    output-requires
+    put-requires
+    slice-aggregate-put
+    put-requires-2
+    ending-requires
+    status-of-requires
+    returns
+    returns-2)

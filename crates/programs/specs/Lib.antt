@@ -1,0 +1,2 @@
+pub mod Programs
+pub mod Says

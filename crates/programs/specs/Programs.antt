@@ -1,0 +1,72 @@
+-- Document 01, "What the kit holds": what each program says, from the bytes that it reads.
+use mathlib.Core.List.{List, [], _++_}
+use mathlib.Core.Bool.{cond}
+use Prim.Native.Nat.{ℕ, _*_}
+use lib.Dec.{eqb}
+use lib.IntN.{ℤ}
+use lib.ListN.{length}
+use Rattle.limits.specs.Limits.{Limits, Station}
+use Rattle.lexeme.specs.Answers.{Answer, given, refused, pass}
+use Rattle.instruction.specs.Endings.{normal}
+use Rattle.instruction.specs.Instructions.{numbers}
+use Rattle.machine.specs.Machine.{Report}
+use Rattle.compiler.specs.Compiled.{Accepted, compiled, code-of-text}
+use Rattle.kit.specs.Kit.{worked-out, need-of}
+use Rattle.readings.specs.Readings.{readings}
+use Rattle.lines.specs.Lines.{line-end, refused-line, ending-line, accepted-line, table-lines}
+
+-- on standard output, on standard error, and by its status
+pub record Said : Type 0 where
+  pub out : List ℕ
+  pub err : List ℕ
+  pub status : ℕ
+
+abbrev pub good : ℕ
+good = 0
+
+abbrev pub not-good : ℕ
+not-good = 1
+
+-- ---- what comes of a text
+
+-- the text, with a code table for the most instructions
+unfoldable pub judged : Limits → List ℕ → Answer Accepted
+judged limits text = compiled limits text (limits .instructions * 2)
+
+-- the text, run on readings: what is reported, by its sentences alone
+unfoldable pub came : Limits → ℕ → ℕ → List ℕ → List ℤ → Answer Report
+came limits budget room text zs = pass (judged limits text) λ a. given (worked-out zs room budget a)
+
+-- the text, run on the readings of an input
+unfoldable pub came-on : Limits → Station → List ℕ → List ℕ → Answer Report
+came-on limits s text input = came limits (s .budget) (s .room) text (readings (s .readings) input)
+
+-- ---- the first program: the accepted line and a line for each instruction, or the refusal's line; its status is good exactly when the text is accepted
+
+unfoldable pub listed : Answer Accepted → Said
+listed (given a) = record { out = accepted-line (length (code-of-text a)) (a .cells) (need-of a) ++ table-lines (numbers (code-of-text a)); err = []; status = good }
+listed (refused n p) = record { out = refused-line n p; err = []; status = not-good }
+
+unfoldable pub listing : Limits → List ℕ → Said
+listing limits text = listed (judged limits text)
+
+-- ---- the second program: the output, a line end, and how the run ended, or the refusal's line; its status is good exactly with ending 0
+
+unfoldable pub status-of : ℕ → ℕ
+status-of ending = cond (eqb ending normal) good not-good
+
+unfoldable pub told : Answer Report → Said
+told (given r) = record { out = r .output ++ line-end ++ ending-line (r .ending) (r .steps); err = []; status = status-of (r .ending) }
+told (refused n p) = record { out = refused-line n p; err = []; status = not-good }
+
+unfoldable pub station : Limits → Station → List ℕ → List ℕ → Said
+station limits s text input = told (came-on limits s text input)
+
+-- ---- for the feed: only the output of a run with ending 0; on standard error, how any other ended; its status is good exactly when the output may be sent
+
+unfoldable pub sent : Answer Report → Said
+sent (given r) = cond (eqb (r .ending) normal) (record { out = r .output; err = []; status = good }) (record { out = []; err = ending-line (r .ending) (r .steps); status = not-good })
+sent (refused n p) = record { out = []; err = refused-line n p; status = not-good }
+
+unfoldable pub feed : Limits → Station → List ℕ → List ℕ → Said
+feed limits s text input = sent (came-on limits s text input)

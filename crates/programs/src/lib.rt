@@ -1,0 +1,186 @@
+// What each program says, into pages that it is lent. The programs only read, call and write.
+ghost use mathlib.Core.Path.{_≡_};
+ghost use mathlib.Core.List.{[]};
+ghost use lib.ListN.{length, take};
+ghost use Rattle.limits.specs.Limits.{Sizes};
+ghost use Rattle.programs.specs.Programs.{judged, came, listed, status-of, told, sent};
+ghost use Rattle.programs.specs.Says.{Given, Says, Comes, Tells, with-output};
+use compiler::Answer;
+use kit::Outcome;
+use limits::Limits;
+use limits::Station;
+use machine::Report;
+
+// How many bytes stand on the page for standard output and on the one for standard error, and the status.
+pub struct Said {
+    pub out: usize,
+    pub err: usize,
+    pub status: u8,
+}
+
+pub const GOOD: u8 = 0;
+
+pub const NOT_GOOD: u8 = 1;
+
+// Room for the longest line that is not an instruction's, for a whole listing, and for what is said of a run.
+pub const LINE: usize = 96;
+
+pub const LISTING: usize = Limits::INSTRUCTIONS * 65 + LINE;
+
+pub const PAGE: usize = Station::ROOM + LINE;
+
+// What came of a text.
+pub enum Came {
+    Ran(Report),
+    Refused(u8, usize),
+}
+
+// The text, run on readings. A table and a stack for the most instructions are enough for every accepted text.
+pub fn lesson(text: &[u8], readings: &[i32], room: &mut [u8; Station::ROOM]) -> Came
+    ghost { Given }
+    requires { λ g. do ⌜ record { sizes = record { word = (← ⟦Limits::WORD⟧); string = (← ⟦Limits::STRING⟧); literal = (← ⟦Limits::LITERAL⟧) }; budget = (← ⟦Station::BUDGET⟧) } ≡ g ⌝ }
+    ensures { λ g r. do ⌜ Comes (now (room .entry)) (came (record { text = (← ⟦Limits::TEXT⟧ .entry); sizes = g .sizes; nesting = (← ⟦Limits::NESTING⟧ .entry); declarations = (← ⟦Limits::DECLARATIONS⟧ .entry); instructions = (← ⟦Limits::INSTRUCTIONS⟧ .entry) }) (g .budget) (length (now (room .entry))) (now (text .entry)) (now (readings .entry))) r (now (room .exit)) ⌝ }
+{
+    let mut table = [0i32; Limits::INSTRUCTIONS * 2];
+    let mut stack = [0i32; Limits::INSTRUCTIONS];
+    let o = kit::run_text(
+        text,
+        readings,
+        Station::BUDGET,
+        &mut table,
+        &mut stack,
+        room,
+    );
+    match o {
+        Outcome::Ran(r) => Came::Ran(r),
+        Outcome::Refused(n, p) => Came::Refused(n, p),
+        // never: the need is at most the instructions
+        Outcome::Needs(n) => Came::Refused(0, n),
+    }
+}
+
+// The listing of a text, or the line of its refusal.
+pub fn listing(text: &[u8], page: &mut [u8; LISTING]) -> Said
+    ghost { Sizes }
+    requires { λ sizes. do ⌜ record { word = (← ⟦Limits::WORD⟧); string = (← ⟦Limits::STRING⟧); literal = (← ⟦Limits::LITERAL⟧) } ≡ sizes ⌝ }
+    ensures { λ sizes r. do ⌜ Says (listed (judged (record { text = (← ⟦Limits::TEXT⟧ .entry); sizes = sizes; nesting = (← ⟦Limits::NESTING⟧ .entry); declarations = (← ⟦Limits::DECLARATIONS⟧ .entry); instructions = (← ⟦Limits::INSTRUCTIONS⟧ .entry) }) (now (text .entry)))) r (now (page .entry)) (now (page .exit)) [] [] ⌝ }
+{
+    let mut table = [0i32; Limits::INSTRUCTIONS * 2];
+    let a = compiler::compile(text, &mut table);
+    match a {
+        Answer::Refused(n, p) => Said {
+            out: lines::refused(page, 0, n, p),
+            err: 0,
+            status: NOT_GOOD,
+        },
+        Answer::Accepted(n, cells, need) => {
+            let at = lines::accepted(page, 0, n, cells, need);
+            let end = n * 2;
+            Said {
+                out: lines::instructions(page, at, &table[..end]),
+                err: 0,
+                status: GOOD,
+            }
+        }
+    }
+}
+
+// Good exactly with ending 0.
+fn status_of(ending: u8) -> u8
+    ensures { λ r. ⌜ r ≡ status-of ending ⌝ }
+{
+    if ending == 0 {
+        return GOOD;
+    }
+    NOT_GOOD
+}
+
+// The output of a run stands at the beginning of its room.
+fn output(length: usize, room: &[u8]) -> &[u8]
+    ensures { λ r. ⌜ now r ≡ take length (now (room .entry)) ⌝ }
+{
+    if room.len() <= length {
+        return room;
+    }
+    &room[..length]
+}
+
+// The output of a run, a line end, and how it ended; or the line of the refusal.
+fn tell(c: Came, room: &[u8; Station::ROOM], page: &mut [u8; PAGE]) -> Said
+    ensures { λ r. ⌜ Says (told (with-output c (now (room .entry)))) r (now (page .entry)) (now (page .exit)) [] [] ⌝ }
+{
+    match c {
+        Came::Refused(n, p) => Said {
+            out: lines::refused(page, 0, n, p),
+            err: 0,
+            status: NOT_GOOD,
+        },
+        Came::Ran(r) => {
+            let a = lines::put(page, 0, output(r.length, room));
+            let b = lines::put(page, a, b"\n");
+            Said {
+                out: lines::ending(page, b, r.ending, r.steps),
+                err: 0,
+                status: status_of(r.ending),
+            }
+        }
+    }
+}
+
+// The second program of the paper.
+pub fn station(
+    text: &[u8],
+    readings: &[i32],
+    room: &mut [u8; Station::ROOM],
+    page: &mut [u8; PAGE],
+) -> Said
+    ghost { Given }
+    requires { λ g. do ⌜ record { sizes = record { word = (← ⟦Limits::WORD⟧); string = (← ⟦Limits::STRING⟧); literal = (← ⟦Limits::LITERAL⟧) }; budget = (← ⟦Station::BUDGET⟧) } ≡ g ⌝ }
+    ensures { λ g r. do ⌜ Tells told (came (record { text = (← ⟦Limits::TEXT⟧ .entry); sizes = g .sizes; nesting = (← ⟦Limits::NESTING⟧ .entry); declarations = (← ⟦Limits::DECLARATIONS⟧ .entry); instructions = (← ⟦Limits::INSTRUCTIONS⟧ .entry) }) (g .budget) (length (now (room .entry))) (now (text .entry)) (now (readings .entry))) (now (room .entry)) r (now (room .exit)) (now (page .entry)) (now (page .exit)) [] [] ⌝ }
+{
+    let c = lesson(text, readings, room);
+    tell(c, room, page)
+}
+
+// What may be sent on to the feed, and on a page of its own why nothing may.
+fn send(c: Came, room: &[u8; Station::ROOM], page: &mut [u8; PAGE], note: &mut [u8; LINE]) -> Said
+    ensures { λ r. ⌜ Says (sent (with-output c (now (room .entry)))) r (now (page .entry)) (now (page .exit)) (now (note .entry)) (now (note .exit)) ⌝ }
+{
+    match c {
+        Came::Refused(n, p) => Said {
+            out: 0,
+            err: lines::refused(note, 0, n, p),
+            status: NOT_GOOD,
+        },
+        Came::Ran(r) => {
+            if r.ending == 0 {
+                return Said {
+                    out: lines::put(page, 0, output(r.length, room)),
+                    err: 0,
+                    status: GOOD,
+                };
+            }
+            Said {
+                out: 0,
+                err: lines::ending(note, 0, r.ending, r.steps),
+                status: NOT_GOOD,
+            }
+        }
+    }
+}
+
+// The program for the feed.
+pub fn feed(
+    text: &[u8],
+    readings: &[i32],
+    room: &mut [u8; Station::ROOM],
+    page: &mut [u8; PAGE],
+    note: &mut [u8; LINE],
+) -> Said
+    ghost { Given }
+    requires { λ g. do ⌜ record { sizes = record { word = (← ⟦Limits::WORD⟧); string = (← ⟦Limits::STRING⟧); literal = (← ⟦Limits::LITERAL⟧) }; budget = (← ⟦Station::BUDGET⟧) } ≡ g ⌝ }
+    ensures { λ g r. do ⌜ Tells sent (came (record { text = (← ⟦Limits::TEXT⟧ .entry); sizes = g .sizes; nesting = (← ⟦Limits::NESTING⟧ .entry); declarations = (← ⟦Limits::DECLARATIONS⟧ .entry); instructions = (← ⟦Limits::INSTRUCTIONS⟧ .entry) }) (g .budget) (length (now (room .entry))) (now (text .entry)) (now (readings .entry))) (now (room .entry)) r (now (room .exit)) (now (page .entry)) (now (page .exit)) (now (note .entry)) (now (note .exit)) ⌝ }
+{
+    let c = lesson(text, readings, room);
+    send(c, room, page, note)
+}
