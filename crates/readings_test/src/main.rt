@@ -68,7 +68,7 @@ fn words() {
     see(b"4 - 6");
 }
 
-// A byte of each kind after a number, and the neighbours of the digits.
+// A byte of each kind after a number: signs, letters, the neighbours of the digits, other marks.
 fn after_a_number() {
     see(b"5-");
     see(b"5+");
@@ -81,18 +81,23 @@ fn after_a_number() {
     see(b"5:");
     see(b"5_0");
     see(b"5\"");
+}
+
+fn bytes_after_a_number() {
     show(b"a NUL after a number", b"5\0 6", b"");
     show(b"a DEL after a number", b"5\x7f 6", b"");
     show(b"a byte 255 after a number", b"5\xff 6", b"");
 }
 
-// Bytes that separate nothing here.
-fn no_separators() {
+fn control_bytes() {
     show(b"a NUL between words", b"5 \0 6", b"");
     show(b"a NUL for a separator", b"5\06", b"");
     show(b"a form feed between words", b"5 \x0c 6", b"");
     show(b"a form feed for a separator", b"5\x0c6", b"");
     show(b"a vertical tab before a number", b"5 \x0b6", b"");
+}
+
+fn no_break_spaces() {
     show(b"a no-break space between words", b"5 \xc2\xa0 6", b"");
     show(b"a no-break space for a separator", b"5\xc2\xa06", b"");
     show(b"a no-break space of one byte", b"5\xa06", b"");
@@ -180,7 +185,7 @@ fn tell_after(label: &[u8], times: usize, one: &[u8], two: &[u8]) {
     told(label, r, one, two, &mut numbers);
 }
 
-fn ends() {
+fn words_that_end_them() {
     tell(b"nothing, a separator", b"", b" ");
     tell(b"5, a separator", b"5", b" ");
     tell(b"5, a letter", b"5", b"x");
@@ -188,11 +193,17 @@ fn ends() {
     tell(b"a minus, a digit", b"-", b"1");
     tell(b"a minus, a separator", b"-", b" ");
     tell(b"a minus, a minus", b"-", b"-");
+    tell(b"a letter, a number", b"x", b" 5 ");
+}
+
+fn ranges_that_end_them() {
     tell(b"214748364, 7", b"214748364", b"7");
     tell(b"214748364, 8", b"214748364", b"8");
     tell(b"-214748364, 8", b"-214748364", b"8");
     tell(b"-214748364, 9", b"-214748364", b"9");
-    tell(b"a letter, a number", b"x", b" 5 ");
+}
+
+fn full_numbers() {
     tell_after(b"4094 readings, 8, a separator", 4094, b"8", b" ");
     tell_after(b"4095 readings, 8, a separator", 4095, b"8", b" ");
     tell_after(b"4096 readings, a separator, 8", 4096, b" ", b"8");
@@ -201,9 +212,13 @@ fn ends() {
 fn main() {
     words();
     after_a_number();
-    no_separators();
+    bytes_after_a_number();
+    control_bytes();
+    no_break_spaces();
     ranges();
     chunks();
     lengths();
-    ends();
+    words_that_end_them();
+    ranges_that_end_them();
+    full_numbers();
 }

@@ -1,0 +1,23 @@
+-- What is received of an input. No contract can say which bytes a read brings, so each says that there are such bytes.
+use mathlib.Core.Path.{_≡_}
+use mathlib.Core.Bool.{Bool}
+use mathlib.Core.List.{List, _++_}
+use Prim.Native.Nat.{ℕ}
+use lib.IntN.{ℤ}
+use Rattle.readings.specs.Rest.{takes}
+use Rattle.readings.specs.Taken.{taken-in}
+use Rattle.readings.specs.declared.Reader.{Reader}
+use Rattle.input.specs.declared.Chunk.{Chunk}
+use Rattle.input.specs.declared.Chunk.the-variants.{Came, Failed}
+use Rattle.input.specs.declared.Received.{Received}
+use Rattle.input.specs.declared.Received.the-variants.{Readings, Unreadable}
+
+-- the numbers l became k: they hold the readings of some input, which are counted, and what stood past them
+abbrev pub Receives : Received → List ℤ → List ℤ → Type 0
+Receives (Readings n) l k = (input : List ℕ) × (record { count = n; numbers = k } ≡ taken-in l input)
+Receives Unreadable l k = Unit {0}
+
+-- the reader r with the numbers l went on by some bytes
+abbrev pub Goes-on : Chunk → Reader → List ℤ → List ℤ → Type 0
+Goes-on (Came e more) r l k = (bytes : List ℕ) × ((rest : List ℕ) → takes e k rest ≡ takes r l (bytes ++ rest))
+Goes-on Failed r l k = Unit {0}
