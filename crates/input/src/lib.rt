@@ -42,7 +42,7 @@ pub fn text_file(path: &[u8], text: &mut [u8]) -> Loaded
 }
 
 // What one read leads to, and whether another may change anything.
-pub enum Chunk {
+enum Chunk {
     Came(Reader, bool),
     Failed,
 }

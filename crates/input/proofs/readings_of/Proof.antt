@@ -1,5 +1,6 @@
 -- What is taken from here on is what is taken of some input from the start, of which so much was seen; and the turns run out.
 use mathlib.Core.Path.{_≡_, refl, _∙_}
+use mathlib.Core.Bool.{Bool}
 use mathlib.Core.List.{List, [], _++_, append-assoc}
 use Prim.Native.Nat.{ℕ}
 use borrow.Author.Needs.{needs}
@@ -8,6 +9,7 @@ use lib.ListN.{length}
 use Rattle.readings.specs.Rest.{takes}
 use Rattle.readings.specs.Taken.{taken-in}
 use Rattle.readings.specs.declared.Reader.{Reader}
+use Rattle.input.specs.Received.{Went}
 use Rattle.input.proofs.readings_of.Statement.{statement}
 use Rattle.input.proofs.readings_of.Tie as tie
 
@@ -15,8 +17,8 @@ use Rattle.input.proofs.readings_of.Tie as tie
 abbrev Seen : Reader → List ℤ → List ℤ → Type 0
 Seen r k l = (seen : List ℕ) × ((rest : List ℕ) → takes r k rest ≡ taken-in l (seen ++ rest))
 
-further : (r e : Reader) (k m l : List ℤ) → (bytes : List ℕ) × ((rest : List ℕ) → takes e m rest ≡ takes r k (bytes ++ rest)) → Seen r k l → Seen e m l
-further r e k m l by so-far = (so-far .0 ++ by .0, λ rest. rw append-assoc (by .1 rest ∙ so-far .1 (by .0 ++ rest)))
+further : (r e : Reader) (k m l : List ℤ) (more : Bool) → (bytes : List ℕ) × Went bytes r k e m more → Seen r k l → Seen e m l
+further r e k m l more by so-far = (so-far .0 ++ by .0, λ rest. rw append-assoc (by .1 .on rest ∙ so-far .1 (by .0 ++ rest)))
 
 abbrev Inv-loop : tie.InvT-loop
 Inv-loop fd numbers₀ reader₀ more₀ turns₀ numbers reader more turns = (length numbers ≡ length numbers₀) × Seen reader numbers numbers₀
@@ -52,7 +54,7 @@ loop-less : tie.Need-loop-less Inv-loop μ-loop
 loop-less c = search needs
 
 loop-again : tie.Need-loop-again Inv-loop μ-loop
-loop-again c = (search needs, further _ _ _ _ _ (rw (c .before .chunk .given .1) at (c .before .before .before .before .take-chunk .ensures)) (c .before .before .before .before .before .before .before .before .loop .inv .1))
+loop-again c = (search needs, further _ _ _ _ _ _ (rw (c .before .chunk .given .1) at (c .before .before .before .before .take-chunk .ensures)) (c .before .before .before .before .before .before .before .before .loop .inv .1))
 
 finish-requires : tie.Need-finish-requires Inv-loop μ-loop
 finish-requires c κs = search needs
