@@ -1,6 +1,7 @@
 // What the programs read: the text of a file, and the readings of an input.
 ghost use lib.ListN.{length};
-ghost use Rattle.input.specs.Received.{Receives, Goes-on};
+ghost use Rattle.input.specs.Chunks.{Goes-on};
+ghost use Rattle.input.specs.Received.{Receives};
 ghost use Rattle.input.specs.Within.{Within};
 use readings::Reader;
 

@@ -9,7 +9,7 @@ use lib.ListN.{length}
 use Rattle.readings.specs.Rest.{takes}
 use Rattle.readings.specs.Taken.{taken-in}
 use Rattle.readings.specs.declared.Reader.{Reader}
-use Rattle.input.specs.Received.{Went}
+use Rattle.input.specs.Chunks.{Went}
 use Rattle.input.proofs.readings_of.Statement.{statement}
 use Rattle.input.proofs.readings_of.Tie as tie
 
