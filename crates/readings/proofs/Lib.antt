@@ -1,4 +1,4 @@
 pub mod Numbers
-pub mod Steps
+pub mod Takes
 pub mod Whole
 pub mod Words

@@ -13,18 +13,12 @@ use Rattle.lexeme.specs.Lexemes.{value}
 use Rattle.lexeme.proofs.Runs.{run-yes, run-no}
 use Rattle.lexeme.proofs.Words.{value-grows}
 use Rattle.readings.specs.Readings.{in-range, number, decimal, reading, other, past, readings}
+use Rattle.readings.specs.Rest.{word-of, after, within, left}
 use Rattle.readings.specs.Steps.{digit-more, word-more}
 use Rattle.readings.specs.declared.Phase.{Phase}
 use Rattle.readings.specs.declared.Phase.the-variants.{Between, Minus, Number, Over}
 
 -- ---- words
-
--- what a word reads as whose beginning led to the phase p, where w is the rest of it
-unfoldable pub word-of : Phase → List ℕ → Option ℤ
-word-of Between w = reading w
-word-of Minus w = decimal true w
-word-of (Number negative n) w = cond (all digit w) (number negative (value n w)) none
-word-of Over w = none
 
 -- a number that is out of range stays so
 out-of-range : (negative : Bool) (n : ℕ) (w : List ℕ) → in-range negative n ≡ false → number negative (value n w) ≡ none
@@ -68,11 +62,7 @@ past-no : (such : ℕ → Bool) (b : ℕ) (s : List ℕ) → such b ≡ false �
 unfolding past
 past-no such b s h = rw (run-no such b s h)
 
--- the readings from a word on that reads as o, where s follows it and there is room for m more
-abbrev pub after : ℕ → Option ℤ → List ℕ → List ℤ
-after m o s = elim o [ none ↦ [] | some z ↦ z ∷ readings m s ]
-
--- the same, from the beginning of a word on
+-- the readings from the beginning of a word on, where there is room for m past it
 abbrev from : ℕ → List ℕ → List ℤ
 from m s = after m (reading (run other s)) (past other s)
 
@@ -81,17 +71,10 @@ unfolding readings
 skip zero b s h = refl
 skip (suc m) b s h = ap (from m) (past-yes separator b s h)
 
--- the readings that are left within a word, where there is room for so many
-unfoldable pub within : ℕ → Phase → List ℕ → List ℤ
-within zero p s = []
-within (suc m) p s = after m (word-of p (run other s)) (past other s)
-
--- the readings that are left
-unfoldable pub left : ℕ → Phase → List ℕ → List ℤ
-left m Between s = readings m s
-left m Minus s = within m Minus s
-left m (Number negative n) s = within m (Number negative n) s
-left m Over s = within m Over s
+over-within : (m : ℕ) (s : List ℕ) → [] ≡ within m Over s
+unfolding within word-of
+over-within zero s = refl
+over-within (suc m) s = refl
 
 -- the first byte that is no separator
 module _ (b : ℕ) (s : List ℕ) (h : separator b ≡ false) where
@@ -115,7 +98,7 @@ module _ (b : ℕ) (s : List ℕ) (h : separator b ≡ false) where
     where
       by-test : (t : Bool) → left m (cond t (Number negative (n * 10 + (b - 48))) Over) s ≡ within m (cond t (Number negative (n * 10 + (b - 48))) Over) s
       by-test true = refl
-      by-test false = refl
+      by-test false = over-within m s
 
   pub left-on : (m : ℕ) (p : Phase) → left m (word-more p b) s ≡ left m p (b ∷ s)
   unfolding left word-more
@@ -126,12 +109,7 @@ module _ (b : ℕ) (s : List ℕ) (h : separator b ≡ false) where
       by-test false = left-number m false 0
   left-on m Minus = left-number m true 0 ∙ within-on m Minus
   left-on m (Number negative n) = left-number m negative n ∙ within-on m (Number negative n)
-  left-on m Over = within-on m Over
-
-pub left-over : (m : ℕ) (s : List ℕ) → left m Over s ≡ []
-unfolding left within word-of
-left-over zero s = refl
-left-over (suc m) s = refl
+  left-on m Over = refl
 
 pub separates : (b : ℕ) (s : List ℕ) → separator b ≡ true → run other (b ∷ s) ≡ []
 unfolding other

@@ -1,2 +1,4 @@
 pub mod Readings
+pub mod Rest
 pub mod Steps
+pub mod Taken

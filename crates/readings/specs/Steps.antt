@@ -1,5 +1,5 @@
--- How the readings are taken byte by byte: a reader, the numbers that it was lent, and what a byte makes of them.
-use mathlib.Core.List.{List, [], _∷_}
+-- How the readings are taken byte by byte: what a byte makes of the word that it stands in, and what the end of a word makes of a reader and the numbers that it was lent.
+use mathlib.Core.List.{List}
 use mathlib.Core.Bool.{Bool, true, false, cond, _&&_}
 use mathlib.Core.Option.{Option, none, some}
 use Prim.Native.Nat.{ℕ, _+_, _-_, _*_}
@@ -7,18 +7,11 @@ use Prim.Native.Char.{code}
 use lib.Dec.{ltb, eqb}
 use lib.IntN.{ℤ}
 use lib.ListN.{length, set}
-use Rattle.lexeme.specs.Bytes.{separator, digit}
+use Rattle.lexeme.specs.Bytes.{digit}
 use Rattle.readings.specs.Readings.{in-range, number}
 use Rattle.readings.specs.declared.Phase.{Phase}
 use Rattle.readings.specs.declared.Phase.the-variants.{Between, Minus, Number, Over}
 use Rattle.readings.specs.declared.Reader.{Reader}
-
-pub record Held : Type 0 where
-  pub reader : Reader
-  pub numbers : List ℤ
-
-abbrev pub held : Phase → ℕ → List ℤ → Held
-held p k l = record { reader = record { phase = p; count = k }; numbers = l }
 
 -- a number after one byte more of its word
 unfoldable pub digit-more : Bool → ℕ → ℕ → Phase
@@ -32,6 +25,13 @@ word-more Between b = cond (eqb b (code "-")) Minus (digit-more false 0 b)
 word-more Minus b = digit-more true 0 b
 word-more (Number negative n) b = digit-more negative n b
 word-more Over b = Over
+
+pub record Held : Type 0 where
+  pub reader : Reader
+  pub numbers : List ℤ
+
+abbrev pub held : Phase → ℕ → List ℤ → Held
+held p k l = record { reader = record { phase = p; count = k }; numbers = l }
 
 -- a reading is stored, if there is room
 unfoldable pub stored : Option ℤ → ℕ → List ℤ → Held
@@ -47,28 +47,3 @@ ended-at Over k l = held Over k l
 
 unfoldable pub ended : Held → Held
 ended h = ended-at (h .reader .phase) (h .reader .count) (h .numbers)
-
-unfoldable pub step : Held → ℕ → Held
-step h b = cond (separator b) (ended h) (held (word-more (h .reader .phase) b) (h .reader .count) (h .numbers))
-
--- one step for each byte
-unfoldable pub steps : Held → List ℕ → Held
-steps h [] = h
-steps h (b ∷ s) = steps (step h b) s
-
--- before the first byte
-unfoldable pub start : Reader
-start = record { phase = Between; count = 0 }
-
--- at the end of the input: how many readings there are, and the numbers that were lent
-pub record Taken : Type 0 where
-  pub count : ℕ
-  pub numbers : List ℤ
-
-unfoldable pub finished : Held → Taken
-finished h = record { count = ended h .reader .count; numbers = ended h .numbers }
-
--- the chunks of an input, one after the other
-unfoldable pub fed : Held → List (List ℕ) → Held
-fed h [] = h
-fed h (c ∷ cs) = fed (steps h c) cs

@@ -1,8 +1,13 @@
 // The readings of an input that comes in chunks of any length.
 ghost use mathlib.Core.Path.{_≡_};
 ghost use mathlib.Core.Bool.{true};
+ghost use mathlib.Core.List.{List, [], _∷_, _++_};
+ghost use Prim.Native.Nat.{ℕ};
+ghost use lib.IntN.{ℤ};
 ghost use Rattle.readings.specs.Readings.{in-range, signed, number};
-ghost use Rattle.readings.specs.Steps.{digit-more, word-more, stored, ended, step, steps, start, finished};
+ghost use Rattle.readings.specs.Rest.{takes, over};
+ghost use Rattle.readings.specs.Steps.{digit-more, word-more, stored, ended};
+ghost use Rattle.readings.specs.Taken.{taken-in};
 
 // What the bytes since the last separator are: none, a minus alone, a number with its sign and magnitude; or the readings are over.
 pub enum Phase {
@@ -67,8 +72,8 @@ fn word_more(phase: Phase, b: u8) -> Phase
 }
 
 // A number is stored if it is in range and there is room; else the readings are over.
-fn store(negative: bool, n: u64, count: usize, readings: &mut [i32]) -> Reader
-    ensures { λ r. ⌜ record { reader = r; numbers = now (readings .exit) } ≡ stored (number negative n) count (now (readings .entry)) ⌝ }
+fn store(negative: bool, n: u64, count: usize, numbers: &mut [i32]) -> Reader
+    ensures { λ r. ⌜ record { reader = r; numbers = now (numbers .exit) } ≡ stored (number negative n) count (now (numbers .entry)) ⌝ }
 {
     if !is_in_range(negative, n) {
         return Reader {
@@ -76,13 +81,13 @@ fn store(negative: bool, n: u64, count: usize, readings: &mut [i32]) -> Reader
             count,
         };
     }
-    if readings.len() <= count {
+    if numbers.len() <= count {
         return Reader {
             phase: Phase::Over,
             count,
         };
     }
-    readings[count] = signed(negative, n);
+    numbers[count] = signed(negative, n);
     Reader {
         phase: Phase::Between,
         count: count + 1,
@@ -90,8 +95,8 @@ fn store(negative: bool, n: u64, count: usize, readings: &mut [i32]) -> Reader
 }
 
 // A word ends, by a separator or by the end of the input.
-fn end_word(r: Reader, readings: &mut [i32]) -> Reader
-    ensures { λ e. ⌜ record { reader = e; numbers = now (readings .exit) } ≡ ended (record { reader = r; numbers = now (readings .entry) }) ⌝ }
+fn end_word(r: Reader, numbers: &mut [i32]) -> Reader
+    ensures { λ e. ⌜ record { reader = e; numbers = now (numbers .exit) } ≡ ended (record { reader = r; numbers = now (numbers .entry) }) ⌝ }
 {
     let phase = r.phase;
     match phase {
@@ -100,16 +105,16 @@ fn end_word(r: Reader, readings: &mut [i32]) -> Reader
             phase: Phase::Over,
             count: r.count,
         },
-        Phase::Number(negative, n) => store(negative, n as u64, r.count, readings),
+        Phase::Number(negative, n) => store(negative, n as u64, r.count, numbers),
         Phase::Over => r,
     }
 }
 
-fn take_byte(r: Reader, b: u8, readings: &mut [i32]) -> Reader
-    ensures { λ e. ⌜ record { reader = e; numbers = now (readings .exit) } ≡ step (record { reader = r; numbers = now (readings .entry) }) b ⌝ }
+fn take_byte(r: Reader, b: u8, numbers: &mut [i32]) -> Reader
+    ensures { λ e. ⌜ ((rest : List ℕ) → takes e (now (numbers .exit)) rest ≡ takes r (now (numbers .entry)) (b ∷ rest)) ⌝ }
 {
     if lexeme::is_separator(b) {
-        return end_word(r, readings);
+        return end_word(r, numbers);
     }
     let phase = r.phase;
     let word = word_more(phase, b);
@@ -121,7 +126,7 @@ fn take_byte(r: Reader, b: u8, readings: &mut [i32]) -> Reader
 
 // Before the first byte.
 pub fn start() -> Reader
-    ensures { λ r. ⌜ r ≡ start ⌝ }
+    ensures { λ r. ⌜ ((l : List ℤ) (rest : List ℕ) → takes r l rest ≡ taken-in l rest) ⌝ }
 {
     Reader {
         phase: Phase::Between,
@@ -130,22 +135,36 @@ pub fn start() -> Reader
 }
 
 // After the next chunk of the input.
-pub fn more(r: Reader, bytes: &[u8], readings: &mut [i32]) -> Reader
-    ensures { λ e. ⌜ record { reader = e; numbers = now (readings .exit) } ≡ steps (record { reader = r; numbers = now (readings .entry) }) (now (bytes .entry)) ⌝ }
+pub fn more(r: Reader, bytes: &[u8], numbers: &mut [i32]) -> Reader
+    ensures { λ e. ⌜ ((rest : List ℕ) → takes e (now (numbers .exit)) rest ≡ takes r (now (numbers .entry)) (now (bytes .entry) ++ rest)) ⌝ }
 {
     let mut reader = r;
     let mut i = 0;
     while i < bytes.len() {
-        reader = take_byte(reader, bytes[i], readings);
+        reader = take_byte(reader, bytes[i], numbers);
         i += 1;
     }
     reader
 }
 
-// After the last chunk: how many readings there are.
-pub fn finish(r: Reader, readings: &mut [i32]) -> usize
-    ensures { λ n. ⌜ record { count = n; numbers = now (readings .exit) } ≡ finished (record { reader = r; numbers = now (readings .entry) }) ⌝ }
+// Whether the readings are over, whatever follows: something came that is none, or the numbers are full.
+pub fn is_over(r: Reader, numbers: &[i32]) -> bool
+    ensures { λ t. ⌜ t ≡ over r (now (numbers .entry)) ⌝ }
 {
-    let last = end_word(r, readings);
+    let full = numbers.len() <= r.count;
+    let phase = r.phase;
+    match phase {
+        Phase::Between => full,
+        Phase::Minus => full,
+        Phase::Number(_, _) => full,
+        Phase::Over => true,
+    }
+}
+
+// After the last chunk: how many readings there are.
+pub fn finish(r: Reader, numbers: &mut [i32]) -> usize
+    ensures { λ n. ⌜ record { count = n; numbers = now (numbers .exit) } ≡ takes r (now (numbers .entry)) [] ⌝ }
+{
+    let last = end_word(r, numbers);
     last.count
 }

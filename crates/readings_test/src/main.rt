@@ -1,6 +1,7 @@
-// The readings of inputs at the edges, a line for each: how many there are, and which.
+// The readings of inputs at the edges, a line for each: how many there are, and which; and when it is told that they are over.
 use readings::Reader;
 use readings::finish;
+use readings::is_over;
 use readings::more;
 use readings::start;
 
@@ -62,8 +63,44 @@ fn words() {
     see(b"1,2");
     see(b"+5");
     see(b"--5");
+    see(b"- 5");
     see(b"4 5-3 6");
     see(b"4 - 6");
+}
+
+// A byte of each kind after a number: signs, letters, the neighbours of the digits, other marks.
+fn after_a_number() {
+    see(b"5-");
+    see(b"5+");
+    see(b"5x");
+    see(b"5X");
+    see(b"0x1");
+    see(b"1e3");
+    see(b"1.5");
+    see(b"5/");
+    see(b"5:");
+    see(b"5_0");
+    see(b"5\"");
+}
+
+fn bytes_after_a_number() {
+    show(b"a NUL after a number", b"5\0 6", b"");
+    show(b"a DEL after a number", b"5\x7f 6", b"");
+    show(b"a byte 255 after a number", b"5\xff 6", b"");
+}
+
+fn control_bytes() {
+    show(b"a NUL between words", b"5 \0 6", b"");
+    show(b"a NUL for a separator", b"5\06", b"");
+    show(b"a form feed between words", b"5 \x0c 6", b"");
+    show(b"a form feed for a separator", b"5\x0c6", b"");
+    show(b"a vertical tab before a number", b"5 \x0b6", b"");
+}
+
+fn no_break_spaces() {
+    show(b"a no-break space between words", b"5 \xc2\xa0 6", b"");
+    show(b"a no-break space for a separator", b"5\xc2\xa06", b"");
+    show(b"a no-break space of one byte", b"5\xa06", b"");
 }
 
 fn ranges() {
@@ -80,6 +117,8 @@ fn chunks() {
     show(b"only separators", b" \t\n\r", b"\r\n\t ");
     show(b"each separator", b"1\t2\n3\r4 5", b"");
     show(b"cut by the end", b"12 34", b"");
+    show(b"cut by the end after its minus", b"12 -", b"");
+    show(b"cut by the end of its second chunk", b"12 3", b"4");
     show(b"a number in two chunks", b"12 -3", b"45 6");
     show(b"a minus and its number", b"12 -", b"345");
     show(b"two numbers in two chunks", b"12 ", b"345");
@@ -114,9 +153,72 @@ fn lengths() {
     many(b"100000 spaces and 7", &separators, 100, b"7", 0);
 }
 
+fn say_over(over: bool) {
+    if over {
+        say(b"over");
+        return;
+    }
+    say(b"not over");
+}
+
+// What is told after each of two chunks more.
+fn told(label: &[u8], r: Reader, one: &[u8], two: &[u8], numbers: &mut [i32]) {
+    let s = more(r, one, numbers);
+    say(label);
+    say(b": ");
+    say_over(is_over(s, numbers));
+    let t = more(s, two, numbers);
+    say(b", then ");
+    say_over(is_over(t, numbers));
+    say(b"\n");
+}
+
+fn tell(label: &[u8], one: &[u8], two: &[u8]) {
+    let mut numbers = [0i32; 4096];
+    told(label, start(), one, two, &mut numbers);
+}
+
+// After so many readings.
+fn tell_after(label: &[u8], times: usize, one: &[u8], two: &[u8]) {
+    let mut numbers = [0i32; 4096];
+    let r = again(start(), b"7\n", times, &mut numbers);
+    told(label, r, one, two, &mut numbers);
+}
+
+fn words_that_end_them() {
+    tell(b"nothing, a separator", b"", b" ");
+    tell(b"5, a separator", b"5", b" ");
+    tell(b"5, a letter", b"5", b"x");
+    tell(b"5 and a separator, a plus", b"5 ", b"+");
+    tell(b"a minus, a digit", b"-", b"1");
+    tell(b"a minus, a separator", b"-", b" ");
+    tell(b"a minus, a minus", b"-", b"-");
+    tell(b"a letter, a number", b"x", b" 5 ");
+}
+
+fn ranges_that_end_them() {
+    tell(b"214748364, 7", b"214748364", b"7");
+    tell(b"214748364, 8", b"214748364", b"8");
+    tell(b"-214748364, 8", b"-214748364", b"8");
+    tell(b"-214748364, 9", b"-214748364", b"9");
+}
+
+fn full_numbers() {
+    tell_after(b"4094 readings, 8, a separator", 4094, b"8", b" ");
+    tell_after(b"4095 readings, 8, a separator", 4095, b"8", b" ");
+    tell_after(b"4096 readings, a separator, 8", 4096, b" ", b"8");
+}
+
 fn main() {
     words();
+    after_a_number();
+    bytes_after_a_number();
+    control_bytes();
+    no_break_spaces();
     ranges();
     chunks();
     lengths();
+    words_that_end_them();
+    ranges_that_end_them();
+    full_numbers();
 }

@@ -21,7 +21,7 @@ returns c = rw (sym (c .before .is-in-range .ensures) ∙ not-true _ (c .if1 .ta
 
 returns-2 : tie.Need-returns-2
 unfolding stored number
-returns-2 c = rw (sym (c .before .before .is-in-range .ensures) ∙ not-false _ (c .before .if1 .left), le-ltb (c .before .before .before .args .count) (length (now (c .before .before .before .args .readings))) (c .if2 .taken))
+returns-2 c = rw (sym (c .before .before .is-in-range .ensures) ∙ not-false _ (c .before .if1 .left), le-ltb (c .before .before .before .args .count) (length (now (c .before .before .before .args .numbers))) (c .if2 .taken))
 
 signed-requires : tie.Need-signed-requires
 signed-requires c κs = sym (c .before .before .is-in-range .ensures) ∙ not-false _ (c .before .if1 .left)
@@ -29,8 +29,8 @@ signed-requires c κs = sym (c .before .before .is-in-range .ensures) ∙ not-fa
 mul-t8 : tie.Need-mul-t8
 mul-t8 c = search needs
 
-slice-set-from-readings : tie.Need-slice-set-from-readings
-slice-set-from-readings c = search needs
+slice-set-from-numbers : tie.Need-slice-set-from-numbers
+slice-set-from-numbers c = search needs
 
 add-t8 : tie.Need-add-t8
 add-t8 c = search needs
@@ -40,7 +40,7 @@ same-length c = search needs
 
 returns-3 : tie.Need-returns-3
 unfolding stored number
-returns-3 c = let f : SFits w32 (c .signed .result) = search needs in rw (toZ-ofZ f, c .signed .ensures, sym (c .before .before .before .is-in-range .ensures) ∙ not-false _ (c .before .before .if1 .left), lt-ltb (c .before .before .before .before .args .count) (length (now (c .before .before .before .before .args .readings))) (c .before .if2 .left))
+returns-3 c = let f : SFits w32 (c .signed .result) = search needs in rw (toZ-ofZ f, c .signed .ensures, sym (c .before .before .before .is-in-range .ensures) ∙ not-false _ (c .before .before .if1 .left), lt-ltb (c .before .before .before .before .args .count) (length (now (c .before .before .before .before .args .numbers))) (c .before .if2 .left))
 
 pub store-spec : {M : Type 1} → statement M
 store-spec =
@@ -51,7 +51,7 @@ store-spec =
     returns-2
     signed-requires
     mul-t8
-    slice-set-from-readings
+    slice-set-from-numbers
     add-t8
     same-length
     returns-3)

@@ -1,6 +1,8 @@
 -- `readings::take_byte` meets its contract. Assumes nothing.
-use mathlib.Core.Path.{sym, _∙_}
-use Rattle.readings.specs.Steps.{step}
+use mathlib.Core.Path.{sym, ap, _∙_}
+use Rattle.readings.specs.Rest.{takes}
+use Rattle.readings.specs.Steps.{Held}
+use Rattle.readings.proofs.Takes.{at-separator, at-other}
 use borrow.Author.Needs.{needs}
 use Rattle.readings.proofs.take_byte.Statement.{statement}
 use Rattle.readings.proofs.take_byte.Tie as tie
@@ -15,15 +17,13 @@ same-length : tie.Need-same-length
 same-length c = search needs
 
 returns : tie.Need-returns
-unfolding step
-returns c = rw (sym (c .before .before .before .before .is-separator .ensures) ∙ c .before .before .before .if1 .taken) (c .before .end-word .ensures)
+returns c rest = ap (λ (h : Held). takes (h .reader) (h .numbers) rest) (c .before .end-word .ensures) ∙ at-separator _ _ rest (sym (c .before .before .before .before .is-separator .ensures) ∙ c .before .before .before .if1 .taken)
 
 word-more-requires : tie.Need-word-more-requires
 word-more-requires c κs = search needs
 
 returns-2 : tie.Need-returns-2
-unfolding step
-returns-2 c = rw (sym (c .before .before .is-separator .ensures) ∙ c .before .if1 .left, c .word-more .ensures)
+returns-2 c rest = rw (c .word-more .ensures) (at-other _ _ _ rest (sym (c .before .before .is-separator .ensures) ∙ c .before .if1 .left))
 
 pub take-byte-spec : {M : Type 1} → statement M
 take-byte-spec =

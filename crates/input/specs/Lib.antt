@@ -1,0 +1,3 @@
+pub mod Chunks
+pub mod Received
+pub mod Within
