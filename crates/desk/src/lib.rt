@@ -1,113 +1,79 @@
-// What the programs at the desk share: a lesson is a text file, run on the readings of another file.
-ghost use Prim.Native.Nat.{_≤_};
+// The programs and the outside: their files are read, what they say is written, and what goes wrong there is told.
 ghost use lib.ListN.{length};
-ghost use Rattle.desk.specs.Within.{Within};
-use kit::Outcome;
+ghost use Rattle.input.specs.Received.{Receives};
+ghost use Rattle.input.specs.Within.{Within};
+use input::Loaded;
+use input::Received;
 use libc::STDERR_FILENO;
+use libc::STDIN_FILENO;
 use libc::STDOUT_FILENO;
-use limits::Limits;
-use machine::Report;
-use readings::Reader;
 
-pub enum Loaded {
-    Bytes(usize),
-    Unreadable,
+// The status of a program that could not do its work.
+pub const TROUBLE: u8 = 2;
+
+// Where `./o` hears the status: a program has none of its own.
+const STATUS_FILENO: i32 = 3;
+
+pub fn end_with(status: u8) {
+    io::print_decimal(STATUS_FILENO, status as u64);
+    io::write_all(STATUS_FILENO, b"\n");
 }
 
-// The beginning of a file, as much as the buffer holds.
-fn load(path: &[u8], text: &mut [u8]) -> Loaded
+// What is wrong, with the system's own reason.
+pub fn trouble(what: &[u8]) {
+    os::fail(what);
+    end_with(TROUBLE);
+}
+
+// The text of the file that the first argument names. Where there is none, that is told.
+pub fn text_argument(text: &mut [u8]) -> Loaded
     ensures { λ r. ⌜ Within r (length (now (text .exit))) ⌝ }
 {
-    let fd = os::open_read(path);
-    if fd < 0 {
+    let mut path = io::buffer();
+    let n = os::arg(1, &mut path);
+    if n == 0 {
+        trouble(b"the name of a text file");
         return Loaded::Unreadable;
     }
-    let got = libc::read(fd, text);
-    if got < 0 {
+    let loaded = input::text_file(&path[..n], text);
+    let Loaded::Bytes(_) = loaded else {
+        trouble(&path[..n]);
         return Loaded::Unreadable;
-    }
-    let first = io::count(got, text);
-    let more = io::read_full(fd, &mut text[first..]);
-    libc::close(fd);
-    Loaded::Bytes(first + more)
-}
-
-// What one chunk of input leads to, and whether there may be more.
-pub struct Chunk {
-    pub reader: Reader,
-    pub more: bool,
-}
-
-fn take_chunk(fd: i32, reader: Reader, numbers: &mut [i32]) -> Chunk {
-    let mut bytes = io::buffer();
-    let n = io::read_full(fd, &mut bytes);
-    Chunk {
-        reader: readings::more(reader, &bytes[..n], numbers),
-        more: 0 < n,
-    }
-}
-
-// The readings of a file, and how many there are. A proved loop has to end, so it counts its turns down from a number that no input uses up.
-fn take_readings(fd: i32, numbers: &mut [i32]) -> usize
-    ensures { λ r. ⌜ r ≤ length (now (numbers .exit)) ⌝ }
-{
-    let mut reader = readings::start();
-    let mut more = true;
-    let mut turns = u64::MAX;
-    while 0 < turns && more {
-        let c = take_chunk(fd, reader, numbers);
-        reader = c.reader;
-        more = c.more;
-        turns -= 1;
-    }
-    let count = readings::finish(reader, numbers);
-    if numbers.len() < count {
-        return numbers.len();
-    }
-    count
-}
-
-pub enum Lesson {
-    Came(Outcome),
-    Unreadable,
-}
-
-// The text file of that name, run on the readings of a file.
-pub fn run_file(path: &[u8], fd: i32, out: &mut [u8]) -> Lesson {
-    let mut text = [0u8; Limits::TEXT + 1];
-    let loaded = load(path, &mut text);
-    let Loaded::Bytes(length) = loaded else {
-        return Lesson::Unreadable;
     };
-    let mut numbers = [0i32; 4096];
-    let count = take_readings(fd, &mut numbers);
-    let mut table = [0i32; Limits::INSTRUCTIONS * 2];
-    let mut stack = [0i32; 4096];
-    let o = kit::run_text(
-        &text[..length],
-        &numbers[..count],
-        1000000,
-        &mut table,
-        &mut stack,
-        out,
-    );
-    Lesson::Came(o)
+    loaded
 }
 
-fn ran(r: Report, out: &[u8]) {
-    let length = r.length;
-    if length <= out.len() {
-        io::write_all(STDOUT_FILENO, &out[..length]);
-    }
-    lines::end_line(STDOUT_FILENO);
-    lines::ending(STDOUT_FILENO, r.ending, r.steps);
+// The text on standard input.
+pub fn text_input(text: &mut [u8]) -> Loaded
+    ensures { λ r. ⌜ Within r (length (now (text .exit))) ⌝ }
+{
+    let loaded = input::text_of(STDIN_FILENO, text);
+    let Loaded::Bytes(_) = loaded else {
+        trouble(b"standard input");
+        return Loaded::Unreadable;
+    };
+    loaded
 }
 
-// The output, a line end, and how the run ended; or the refusal's line.
-pub fn tell(o: Outcome, out: &[u8]) {
-    match o {
-        Outcome::Ran(r) => ran(r, out),
-        Outcome::Refused(n, p) => lines::refused(STDOUT_FILENO, n, p),
-        Outcome::Needs(n) => lines::needs(STDERR_FILENO, n),
+// The readings on standard input.
+pub fn readings_input(numbers: &mut [i32]) -> Received
+    ensures { λ r. ⌜ Receives r (now (numbers .entry)) (now (numbers .exit)) ⌝ }
+{
+    let received = input::readings_of(STDIN_FILENO, numbers);
+    let Received::Readings(_) = received else {
+        trouble(b"standard input");
+        return Received::Unreadable;
+    };
+    received
+}
+
+// Writes what a program says, and then its status; a write that fails is trouble, since nobody got what was said.
+pub fn deliver(out: &[u8], err: &[u8], status: u8) {
+    if !io::write_all(STDOUT_FILENO, out) {
+        return trouble(b"standard output");
     }
+    if !io::write_all(STDERR_FILENO, err) {
+        return trouble(b"standard error");
+    }
+    end_with(status);
 }

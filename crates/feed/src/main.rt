@@ -1,33 +1,31 @@
-// As station, for the feed: standard output gets the output of a run with ending 0 and nothing else; how any other ended is said on standard error.
-use desk::Lesson;
-use kit::Outcome;
-use libc::STDERR_FILENO;
-use libc::STDIN_FILENO;
-use libc::STDOUT_FILENO;
-use machine::Report;
-
-fn ran(r: Report, out: &[u8]) {
-    io::write_all(STDOUT_FILENO, kit::to_send(r.ending, r.length, out));
-    if r.ending != 0 {
-        lines::ending(STDERR_FILENO, r.ending, r.steps);
-    }
-}
-
-fn say(o: Outcome, out: &[u8]) {
-    match o {
-        Outcome::Ran(r) => ran(r, out),
-        Outcome::Refused(n, p) => lines::refused(STDERR_FILENO, n, p),
-        Outcome::Needs(n) => lines::needs(STDERR_FILENO, n),
-    }
-}
+// As station, for the feed: standard output gets the output of a run with ending 0 and nothing else; why nothing may be sent is said on standard error.
+use input::Loaded;
+use input::Received;
+use limits::Limits;
+use limits::Station;
 
 fn main() {
-    let mut path = io::buffer();
-    let n = os::arg(1, &mut path);
-    let mut out = [0u8; 4096];
-    let lesson = desk::run_file(&path[..n], STDIN_FILENO, &mut out);
-    match lesson {
-        Lesson::Came(o) => say(o, &out),
-        Lesson::Unreadable => os::fail(&path[..n]),
-    }
+    let mut text = [0u8; Limits::TEXT + 1];
+    let loaded = desk::text_argument(&mut text);
+    let Loaded::Bytes(size) = loaded else {
+        return;
+    };
+    let mut numbers = [0i32; Station::READINGS];
+    let received = desk::readings_input(&mut numbers);
+    let Received::Readings(count) = received else {
+        return;
+    };
+    let mut room = [0u8; Station::ROOM];
+    let mut page = [0u8; programs::PAGE];
+    let mut note = [0u8; programs::LINE];
+    let s = programs::feed(
+        &text[..size],
+        &numbers[..count],
+        &mut room,
+        &mut page,
+        &mut note,
+    );
+    let out = s.out;
+    let err = s.err;
+    desk::deliver(&page[..out], &note[..err], s.status);
 }

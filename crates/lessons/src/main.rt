@@ -1,18 +1,34 @@
 // Runs each lesson on its readings, and writes what came of it.
-use desk::Lesson;
+use input::Loaded;
+use input::Received;
 use libc::STDOUT_FILENO;
+use limits::Limits;
+use limits::Station;
 
-fn lesson(text: &[u8], readings: &[u8]) {
-    io::write_all(STDOUT_FILENO, text);
-    lines::end_line(STDOUT_FILENO);
+fn run(text: &[u8], readings: &[i32]) {
+    let mut room = [0u8; Station::ROOM];
+    let mut page = [0u8; programs::PAGE];
+    let s = programs::station(text, readings, &mut room, &mut page);
+    let n = s.out;
+    io::write_all(STDOUT_FILENO, &page[..n]);
+}
+
+fn lesson(name: &[u8], readings: &[u8]) {
+    io::write_all(STDOUT_FILENO, name);
+    io::write_all(STDOUT_FILENO, b"\n");
+    let mut text = [0u8; Limits::TEXT + 1];
+    let loaded = input::text_file(name, &mut text);
+    let Loaded::Bytes(size) = loaded else {
+        return desk::trouble(name);
+    };
+    let mut numbers = [0i32; Station::READINGS];
     let fd = os::open_read(readings);
-    let mut out = [0u8; 4096];
-    let l = desk::run_file(text, fd, &mut out);
-    match l {
-        Lesson::Came(o) => desk::tell(o, &out),
-        Lesson::Unreadable => os::fail(text),
-    }
+    let received = input::readings_of(fd, &mut numbers);
+    let Received::Readings(count) = received else {
+        return desk::trouble(readings);
+    };
     libc::close(fd);
+    run(&text[..size], &numbers[..count]);
 }
 
 fn main() {

@@ -1,19 +1,15 @@
-// The listing of the text on standard input, or the one line of its refusal.
-use compiler::Answer;
-use libc::STDIN_FILENO;
-use libc::STDOUT_FILENO;
+// The listing of the text on standard input, or the line of its refusal.
+use input::Loaded;
 use limits::Limits;
 
 fn main() {
     let mut text = [0u8; Limits::TEXT + 1];
-    let n = io::read_full(STDIN_FILENO, &mut text);
-    let mut table = [0i32; Limits::INSTRUCTIONS * 2];
-    let a = compiler::compile(&text[..n], &mut table);
-    match a {
-        Answer::Accepted(instructions, cells, need) => {
-            lines::accepted(STDOUT_FILENO, instructions, cells, need);
-            lines::listing(STDOUT_FILENO, &table, instructions);
-        }
-        Answer::Refused(number, place) => lines::refused(STDOUT_FILENO, number, place),
-    }
+    let loaded = desk::text_input(&mut text);
+    let Loaded::Bytes(size) = loaded else {
+        return;
+    };
+    let mut page = [0u8; programs::LISTING];
+    let s = programs::listing(&text[..size], &mut page);
+    let n = s.out;
+    desk::deliver(&page[..n], b"", s.status);
 }

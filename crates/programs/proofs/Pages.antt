@@ -11,8 +11,10 @@ use Rattle.machine.specs.declared.Report as Code
 use Rattle.lines.specs.Added.{Added}
 use Rattle.lines.specs.Lines.{line-end, refused-line, ending-line}
 use Rattle.lines.proofs.Short.{Small, short-ending}
+use Rattle.programs.specs.Programs as P
 use Rattle.programs.specs.Programs.{status-of, told, sent}
 use Rattle.programs.specs.Says.{Says, with-output}
+use Rattle.programs.specs.declared.Said.{Said}
 use Rattle.programs.specs.declared.Came.{Came}
 use Rattle.programs.specs.declared.Came.the-variants as came
 
@@ -62,3 +64,16 @@ module _ (room : List ℕ) {page page′ : List ℕ} {end : ℕ} {c : Came} wher
     pub sent-not : {out : List ℕ} → (r .ending ≡ 0 → ⊥) → length (ending-line (r .ending) (r .steps)) ≤ length page → Added (ending-line (r .ending) (r .steps)) page 0 page′ end → Says (sent (with-output c room)) (record { out = 0; err = end; status = 1 }) out out page page′
     unfolding sent with-output
     sent-not {out} e short a = rw (is, ne-eqb (r .ending) 0 e) (record { written = refl; page = untouched out; noted = said-bytes a short; note = said-page a short; status = refl })
+
+-- ---- for who takes what is said off a page: it is all there
+
+on-one : (s page : List ℕ) {page′ : List ℕ} {n : ℕ} → n ≡ length s → page′ ≡ room-after s page → n ≤ length page′
+unfolding room-after
+on-one s page e p = rw (e, p) (omega (arith, length-append s (drop (length s) page)))
+
+module _ {s : P.Said} {r : Said} {out out′ err err′ : List ℕ} (x : Says s r out out′ err err′) where
+  pub on-page : r .out ≤ length out′
+  on-page = on-one (s .out) out (x .written) (x .page)
+
+  pub on-note : r .err ≤ length err′
+  on-note = on-one (s .err) err (x .noted) (x .note)

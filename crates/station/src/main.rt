@@ -1,14 +1,23 @@
-// Runs the text file that its argument names on the readings of standard input, and writes the output, a line end, and how the run ended.
-use desk::Lesson;
-use libc::STDIN_FILENO;
+// Runs the text file that its argument names on the readings of standard input: the output, a line end, and how the run ended.
+use input::Loaded;
+use input::Received;
+use limits::Limits;
+use limits::Station;
 
 fn main() {
-    let mut path = io::buffer();
-    let n = os::arg(1, &mut path);
-    let mut out = [0u8; 4096];
-    let lesson = desk::run_file(&path[..n], STDIN_FILENO, &mut out);
-    match lesson {
-        Lesson::Came(o) => desk::tell(o, &out),
-        Lesson::Unreadable => os::fail(&path[..n]),
-    }
+    let mut text = [0u8; Limits::TEXT + 1];
+    let loaded = desk::text_argument(&mut text);
+    let Loaded::Bytes(size) = loaded else {
+        return;
+    };
+    let mut numbers = [0i32; Station::READINGS];
+    let received = desk::readings_input(&mut numbers);
+    let Received::Readings(count) = received else {
+        return;
+    };
+    let mut room = [0u8; Station::ROOM];
+    let mut page = [0u8; programs::PAGE];
+    let s = programs::station(&text[..size], &numbers[..count], &mut room, &mut page);
+    let n = s.out;
+    desk::deliver(&page[..n], b"", s.status);
 }
