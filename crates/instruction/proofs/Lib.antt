@@ -1,3 +1,4 @@
 pub mod Codes
+pub mod Digits
 pub mod Signed
 pub mod Unique

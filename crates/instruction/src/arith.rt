@@ -1,5 +1,6 @@
 // Signed 32-bit numbers: computed at 64 bits, where nothing is lost, and brought back by one test of the range.
 ghost use mathlib.Core.Path.{_≡_};
+ghost use lib.IntN.{natAbs};
 ghost use Rattle.instruction.specs.Numbers.{in-range, calculate, truth};
 ghost use Rattle.instruction.specs.Coded.{as-result, as-two-sided};
 use super::endings;
@@ -56,4 +57,14 @@ pub fn calculate(k: Operator, a: i32, b: i32) -> Calculated
         Operator::Smaller => Calculated::Value(truth(a < b)),
         Operator::Greater => Calculated::Value(truth(b < a)),
     }
+}
+
+// The distance from zero.
+pub fn distance(v: i32) -> u32
+    ensures { λ r. ⌜ r ≡ natAbs v ⌝ }
+{
+    if v < 0 {
+        return (-(v as i64)) as u32;
+    }
+    v as u32
 }

@@ -1,19 +1,9 @@
 // The shortest decimal of a number, written from its end, since the last digit comes first.
 ghost use mathlib.Core.Path.{_≡_};
-ghost use lib.IntN.{natAbs};
 ghost use lib.ListN.{length, drop};
 ghost use Prim.Native.Nat.{suc, _≤_};
 ghost use Rattle.instruction.specs.Numbers.{digits, decimal};
-
-// The distance from zero.
-fn distance(v: i32) -> u32
-    ensures { λ r. ⌜ r ≡ natAbs v ⌝ }
-{
-    if v < 0 {
-        return (-(v as i64)) as u32;
-    }
-    v as u32
-}
+use instruction::arith::distance;
 
 // The digits of m at the end of the buffer, and the place of the first.
 fn put_digits(m: u32, buffer: &mut [u8]) -> usize

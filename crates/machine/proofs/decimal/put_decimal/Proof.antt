@@ -7,7 +7,8 @@ use borrow.Author.Needs.{needs}
 use lib.ListN.{length}
 use lib.IntN.{natAbs}
 use mir.Facts.{toZ-ofZ}
-use Rattle.machine.proofs.Digits.{drop-front, decimal-below, decimal-above}
+use Rattle.instruction.proofs.Digits.{decimal-below, decimal-above}
+use Rattle.machine.proofs.Digits.{drop-front}
 use Rattle.machine.proofs.decimal.put_decimal.Statement.{statement}
 use Rattle.machine.proofs.decimal.put_decimal.Tie as tie
 

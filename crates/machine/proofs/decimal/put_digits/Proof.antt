@@ -6,7 +6,8 @@ use Prim.Native.Nat.{ℕ, _≤_}
 use native.Mathlib.Omega.{arith}
 use denote.Ref.{now}
 use lib.ListN.{length, drop, length-set, drop-of-length-le}
-use Rattle.machine.proofs.Digits.{all-digits, two-left, digit-more, digit-last}
+use Rattle.instruction.proofs.Digits.{all-digits}
+use Rattle.machine.proofs.Digits.{two-left, digit-more, digit-last}
 use Rattle.machine.proofs.decimal.put_digits.Statement.{statement}
 use Rattle.machine.proofs.decimal.put_digits.Tie as tie
 

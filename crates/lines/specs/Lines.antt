@@ -1,0 +1,40 @@
+-- The lines that the programs write: document 01, "Bench examples" and "What the kit holds". Each ends with byte 10.
+use mathlib.Core.List.{List, [], _∷_, _++_}
+use Prim.Native.Nat.{ℕ, zero, suc, _+_, _*_, _/_}
+use Prim.Native.String.{String}
+use lib.IntN.{ℤ, pos}
+use lib.ListN.{length, getD}
+use Rattle.lexeme.specs.Bytes.{bytes}
+use Rattle.instruction.specs.Numbers.{decimal}
+
+abbrev pub line-end : List ℕ
+line-end = 10 ∷ []
+
+-- a number after its label
+unfoldable pub counted : String → ℕ → List ℕ
+counted label n = bytes label ++ decimal (pos n)
+
+-- `refused N P`
+unfoldable pub refused-line : ℕ → ℕ → List ℕ
+refused-line number place = counted "refused " number ++ counted " " place ++ line-end
+
+-- `ending E steps S`
+unfoldable pub ending-line : ℕ → ℕ → List ℕ
+ending-line ending steps = counted "ending " ending ++ counted " steps " steps ++ line-end
+
+-- `accepted I C N`
+unfoldable pub accepted-line : ℕ → ℕ → ℕ → List ℕ
+accepted-line instructions cells need = counted "accepted " instructions ++ counted " " cells ++ counted " " need ++ line-end
+
+-- `PLACE OPERATION OPERAND`
+unfoldable pub instruction-line : ℕ → ℤ → ℤ → List ℕ
+instruction-line place operation operand = decimal (pos place) ++ bytes " " ++ decimal operation ++ bytes " " ++ decimal operand ++ line-end
+
+-- so many lines, from a place of a code table on
+unfoldable pub lines-from : ℕ → ℕ → List ℤ → List ℕ
+lines-from zero place table = []
+lines-from (suc n) place table = instruction-line place (getD table (place * 2) (pos 0)) (getD table (place * 2 + 1) (pos 0)) ++ lines-from n (suc place) table
+
+-- a line for each pair of a code table
+unfoldable pub table-lines : List ℤ → List ℕ
+table-lines table = lines-from (length table / 2) 0 table
