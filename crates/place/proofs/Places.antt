@@ -24,8 +24,8 @@ module _ (such : ℕ → Bool) where
       by-test h true = omega arith
       by-test h false = omega arith
 
-  pub count-take : (n : ℕ) (s : List ℕ) → count such (take n s) ≤ n
-  count-take n s = omega (arith, count-fits (take n s), length-take n s, min-le-left n (length s))
+  pub count-take : (n : ℕ) (s : List ℕ) {r : ℕ} → r ≡ count such (take n s) → r ≤ n
+  count-take n s e = omega (arith, count-fits (take n s), length-take n s, min-le-left n (length s))
 
   -- a loop that counts, at the place where it stands
   module _ (s : List ℕ) (n i : ℕ) where
@@ -43,9 +43,9 @@ module _ (such : ℕ → Bool) where
     unfolding count
     count-out p = rw (drop-of-length-le s p) (omega arith)
 
-pub within-fits : (text : List ℕ) (place : ℕ) → within text place ≤ length text
+pub within-fits : (text : List ℕ) (place : ℕ) {p : ℕ} → p ≡ within text place → p ≤ length text
 unfolding within
-within-fits text place = min-le-right place (length text)
+within-fits text place e = rw e (min-le-right place (length text))
 
 -- a loop that goes back to where a line begins, at the place i
 module _ (text : List ℕ) where
@@ -69,11 +69,14 @@ module _ (text : List ℕ) where
   start-first zero p = refl
   start-first (suc i) p = absurd (omega arith)
 
-  pub start-fits : (p : ℕ) → line-start text p ≤ p
+  begun : (p : ℕ) → line-start text p ≤ p
   unfolding line-start
-  start-fits zero = le-refl 0
-  start-fits (suc p) = by-test (start-fits p) (feed (getD text p 0))
+  begun zero = le-refl 0
+  begun (suc p) = by-test (begun p) (feed (getD text p 0))
     where
       by-test : line-start text p ≤ p → (t : Bool) → started p t ≤ suc p
       by-test h true = omega arith
       by-test h false = omega arith
+
+  pub start-fits : (p : ℕ) {start : ℕ} → start ≡ line-start text p → start ≤ p
+  start-fits p e = rw e (begun p)
