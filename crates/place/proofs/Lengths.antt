@@ -26,6 +26,7 @@ front-fits whole last bs s three = by-test (ltb whole (length bs)) refl
   where
     cut : ℕ
     cut = length bs - last + length (run goes-on (drop (length bs - last) bs))
+
     by-test : (t : Bool) → ltb whole (length bs) ≡ t → length (only (ltb 0 (cond t cut 0)) s) + length (drop (cond t cut 0) bs) ≤ max whole (last + 3)
     by-test true h = omega (arith, only-fits (ltb 0 cut) s, length-drop cut bs)
     by-test false h = omega (arith, ltb-false whole (length bs) h)
