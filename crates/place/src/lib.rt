@@ -17,7 +17,7 @@ pub struct Spot {
 }
 
 // The bytes that are counted, or that a run is made of.
-pub enum Such {
+enum Such {
     Feed,
     NoFeed,
     GoesOn,

@@ -1,6 +1,6 @@
 -- `place::line_start` meets its contract: the line of `i` begins where the line of `p` does. Assumes nothing.
 use Prim.Native.Nat.{_≤_}
-use mathlib.Core.Path.{_≡_, refl, sym, _∙_}
+use mathlib.Core.Path.{_≡_, sym, _∙_}
 use native.Mathlib.Omega.{arith}
 use borrow.Author.Needs.{needs}
 use Rattle.place.specs.Places.{line-start}

@@ -4,7 +4,6 @@ use mathlib.Core.List.{[], _∷_}
 use Prim.Native.Nat.{ℕ, _-_, _≤_}
 use native.Mathlib.Omega.{arith}
 use borrow.Author.Needs.{needs}
-use denote.Ref.{now}
 use lib.ListN.{length, replicate}
 use Rattle.lines.specs.Added.{Added}
 use Rattle.lines.proofs.Adds.{adds-then, adds-none, adds-within}

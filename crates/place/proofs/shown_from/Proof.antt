@@ -7,7 +7,7 @@ use Rattle.place.proofs.shown_from.Statement.{statement}
 use Rattle.place.proofs.shown_from.Tie as tie
 
 returns : tie.Need-returns
-returns c = from-all _ _ _ (c .if1 .taken)
+returns c = from-all _ _ _ (omega arith)
 
 sub-from : tie.Need-sub-from
 sub-from c = search needs
@@ -26,7 +26,7 @@ run-requires c κs = search needs
 
 returns-2 : tie.Need-returns-2
 unfolding such
-returns-2 c = from-cut _ _ _ _ (c .before .before .if1 .left) (c .run .ensures)
+returns-2 c = from-cut _ _ _ _ (omega arith) (c .run .ensures)
 
 add-result : tie.Need-add-result
 add-result c = let h = from-fits _ _ _ (returns-2 c) in omega arith
