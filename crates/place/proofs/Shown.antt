@@ -13,7 +13,6 @@ use lib.Seq.{take-suc, take-all, take-length, drop-length}
 use Rattle.lexeme.specs.Bytes.{run}
 use Rattle.lexeme.proofs.Runs.{run-fits, run-part}
 use Rattle.lines.specs.Added.{Added}
-use Rattle.lines.proofs.Adds.{adds-then}
 use Rattle.place.specs.Places.{goes-on, no-feed, within, line-start, before, after}
 use Rattle.place.specs.Shown.{Widths, seen, shown-from, shown-to, line, mark, marked, marked-line}
 
@@ -75,16 +74,17 @@ space-more i = sym (replicate-append-replicate {A = ℕ} i 1 32)
 pub end-fits : (text : List ℕ) (p r : ℕ) → p ≤ length text → r ≡ length (run no-feed (take (length text - p) (drop p text))) → p + r ≤ length text
 end-fits text p r h e = omega (arith, run-fits no-feed (take (length text - p) (drop p text)), length-take (length text - p) (drop p text), length-drop p text)
 
-marked-parts : (w : Widths) (b a : List ℕ) (from to : ℕ) → from ≡ shown-from (w .whole) (w .last) b → to ≡ shown-to (w .next) (w .rest) a → line (ltb 0 from) (take (length b - from) (drop from b)) (take to a) (ltb to (length a)) ++ mark (ltb 0 from) (take (length b - from) (drop from b)) ≡ marked w b a
-unfolding marked
-marked-parts w b a from to ef et = rw (to-end b from, ef, et)
+pub same-adds : {s t page page′ : List ℕ} {at end : ℕ} → s ≡ t → Added s page at page′ end → Added t page at page′ end
+same-adds e a = rw e at a
 
-marked-text : (w : Widths) (text : List ℕ) (place p start r : ℕ) → p ≡ within text place → start ≡ line-start text p → r ≡ length (run no-feed (take (length text - p) (drop p text))) → marked w (take (p - start) (drop start text)) (take (p + r - p) (drop p text)) ≡ marked-line w text place
+-- the two lines, from parts that go to the end
+pub marked-parts : (w : Widths) (bs cs : List ℕ) (from to : ℕ) → from ≡ shown-from (w .whole) (w .last) bs → to ≡ shown-to (w .next) (w .rest) cs → line (ltb 0 from) (take (length bs - from) (drop from bs)) (take to cs) (ltb to (length cs)) ++ mark (ltb 0 from) (take (length bs - from) (drop from bs)) ≡ marked w bs cs
+unfolding marked
+marked-parts w bs cs from to ef et = rw (to-end bs from, ef, et)
+
+-- the same, from parts of the text
+pub marked-text : (w : Widths) (text : List ℕ) (place p start r : ℕ) → p ≡ within text place → start ≡ line-start text p → r ≡ length (run no-feed (take (length text - p) (drop p text))) → marked w (take (p - start) (drop start text)) (take (p + r - p) (drop p text)) ≡ marked-line w text place
 unfolding marked-line before after
 marked-text w text place p start r ep es er =
     let ends : p + r ≡ p + length (run no-feed (drop p text)) = rw (er, to-end text p) in
     rw (run-part no-feed text p (p + r) ends, es, ep)
-
--- the two lines, added one after the other, by what the code reads off the text
-pub marked-adds : (w : Widths) (text : List ℕ) (place p start r from to : ℕ) {page page′ page″ : List ℕ} {at m n : ℕ} → p ≡ within text place → start ≡ line-start text p → r ≡ length (run no-feed (take (length text - p) (drop p text))) → from ≡ shown-from (w .whole) (w .last) (take (p - start) (drop start text)) → to ≡ shown-to (w .next) (w .rest) (take (p + r - p) (drop p text)) → Added (line (ltb 0 from) (take (length (take (p - start) (drop start text)) - from) (drop from (take (p - start) (drop start text)))) (take to (take (p + r - p) (drop p text))) (ltb to (length (take (p + r - p) (drop p text))))) page at page′ m → Added (mark (ltb 0 from) (take (length (take (p - start) (drop start text)) - from) (drop from (take (p - start) (drop start text))))) page′ m page″ n → Added (marked-line w text place) page at page″ n
-marked-adds w text place p start r from to ep es er ef et first second = rw (marked-parts w (take (p - start) (drop start text)) (take (p + r - p) (drop p text)) from to ef et ∙ marked-text w text place p start r ep es er) at (adds-then first second)

@@ -7,7 +7,7 @@ ghost use Rattle.lexeme.specs.Bytes.{run};
 ghost use Rattle.lines.specs.Added.{Added};
 ghost use Rattle.place.specs.Places.{goes-on, count, within, line-start, spot};
 ghost use Rattle.place.specs.Kinds.{such};
-ghost use Rattle.place.specs.Shown.{seen, shown-from, shown-to, only, line, mark, marked-line};
+ghost use Rattle.place.specs.Shown.{seen, shown-from, shown-to, only, line, mark, marked, marked-line};
 
 // A line and a column, counted from 1, and the place of the line's first byte.
 pub struct Spot {
@@ -217,15 +217,10 @@ fn put_mark(page: &mut [u8], at: usize, front: bool, before: &[u8]) -> usize
     lines::put(page, c, b"^\n")
 }
 
-// Adds the line of a place to a page, and a mark under the place.
-pub fn put_marked_line(page: &mut [u8], at: usize, text: &[u8], place: usize) -> usize
-    ensures { λ r. do ⌜ Added (marked-line (record { whole = (← ⟦Window::WHOLE⟧ .entry); last = (← ⟦Window::LAST⟧ .entry); next = (← ⟦Window::NEXT⟧ .entry); rest = (← ⟦Window::REST⟧ .entry) }) (now (text .entry)) place) (now (page .entry)) at (now (page .exit)) r ⌝ }
+// Both, by the line's bytes before the place and from it on.
+fn put_marked(page: &mut [u8], at: usize, before: &[u8], after: &[u8]) -> usize
+    ensures { λ r. do ⌜ Added (marked (record { whole = (← ⟦Window::WHOLE⟧ .entry); last = (← ⟦Window::LAST⟧ .entry); next = (← ⟦Window::NEXT⟧ .entry); rest = (← ⟦Window::REST⟧ .entry) }) (now (before .entry)) (now (after .entry))) (now (page .entry)) at (now (page .exit)) r ⌝ }
 {
-    let p = within(text, place);
-    let start = line_start(text, p);
-    let end = p + run(&text[p..], Such::NoFeed);
-    let before = &text[start..p];
-    let after = &text[p..end];
     let from = shown_from(before);
     let to = shown_to(after);
     let m = put_line(
@@ -237,4 +232,14 @@ pub fn put_marked_line(page: &mut [u8], at: usize, text: &[u8], place: usize) ->
         to < after.len(),
     );
     put_mark(page, m, 0 < from, &before[from..])
+}
+
+// Adds the line of a place to a page, and a mark under the place.
+pub fn put_marked_line(page: &mut [u8], at: usize, text: &[u8], place: usize) -> usize
+    ensures { λ r. do ⌜ Added (marked-line (record { whole = (← ⟦Window::WHOLE⟧ .entry); last = (← ⟦Window::LAST⟧ .entry); next = (← ⟦Window::NEXT⟧ .entry); rest = (← ⟦Window::REST⟧ .entry) }) (now (text .entry)) place) (now (page .entry)) at (now (page .exit)) r ⌝ }
+{
+    let p = within(text, place);
+    let start = line_start(text, p);
+    let end = p + run(&text[p..], Such::NoFeed);
+    put_marked(page, at, &text[start..p], &text[p..end])
 }
