@@ -1,0 +1,81 @@
+-- `place::put_marked_line` meets its contract. Assumes nothing.
+use native.Mathlib.Omega.{arith}
+use denote.Ref.{now}
+use Rattle.place.specs.Kinds.{such}
+use Rattle.place.proofs.Places.{within-fits, start-fits}
+use Rattle.place.proofs.Shown.{end-fits, same-adds, marked-text}
+use borrow.Author.Needs.{needs}
+use Rattle.place.proofs.put_marked_line.Statement.{statement}
+use Rattle.place.proofs.put_marked_line.Tie as tie
+
+within-requires : tie.Need-within-requires
+within-requires c κs = search needs
+
+line-start-requires : tie.Need-line-start-requires
+line-start-requires c κs = within-fits _ _ (c .within .ensures)
+
+sub-run : tie.Need-sub-run
+sub-run c = within-fits _ _ (c .before .within .ensures)
+
+part-run-start : tie.Need-part-run-start
+part-run-start c = within-fits _ _ (c .before .within .ensures)
+
+part-run-end : tie.Need-part-run-end
+part-run-end c = search needs
+
+run-requires : tie.Need-run-requires
+run-requires c κs = search needs
+
+add-end : tie.Need-add-end
+unfolding such
+add-end c = omega (arith, end-fits (now (c .before .before .before .before .before .before .args .text)) (c .before .before .before .within .result) (c .run .result) (within-fits _ _ (c .before .before .before .within .ensures)) (c .run .ensures))
+
+sub-put-marked : tie.Need-sub-put-marked
+sub-put-marked c = start-fits _ _ (c .before .before .before .line-start .ensures)
+
+part-put-marked-start : tie.Need-part-put-marked-start
+part-put-marked-start c = start-fits _ _ (c .before .before .before .line-start .ensures)
+
+part-put-marked-end : tie.Need-part-put-marked-end
+part-put-marked-end c = within-fits _ _ (c .before .before .before .before .within .ensures)
+
+sub-put-marked-2 : tie.Need-sub-put-marked-2
+sub-put-marked-2 c = search needs
+
+part-put-marked-start-2 : tie.Need-part-put-marked-start-2
+part-put-marked-start-2 c = search needs
+
+part-put-marked-end-2 : tie.Need-part-put-marked-end-2
+unfolding such
+part-put-marked-end-2 c = end-fits (now (c .before .before .before .before .before .before .before .before .args .text)) (c .before .before .before .before .before .within .result) (c .before .before .run .result) (within-fits _ _ (c .before .before .before .before .before .within .ensures)) (c .before .before .run .ensures)
+
+put-marked-requires : tie.Need-put-marked-requires
+put-marked-requires c κs = search needs
+
+same-length : tie.Need-same-length
+same-length c = search needs
+
+returns : tie.Need-returns
+unfolding such
+returns c = same-adds (marked-text _ _ _ _ _ _ (c .before .before .before .before .before .before .before .before .before .within .ensures) (c .before .before .before .before .before .before .before .before .line-start .ensures) (c .before .before .before .before .before .before .run .ensures)) (c .before .before .put-marked .ensures)
+
+pub put-marked-line-spec : {M : Type 1} → statement M
+put-marked-line-spec =
+    tie.close
+    (tie.spec
+    within-requires
+    line-start-requires
+    sub-run
+    part-run-start
+    part-run-end
+    run-requires
+    add-end
+    sub-put-marked
+    part-put-marked-start
+    part-put-marked-end
+    sub-put-marked-2
+    part-put-marked-start-2
+    part-put-marked-end-2
+    put-marked-requires
+    same-length
+    returns)

@@ -1,0 +1,45 @@
+-- `place::shown_from` meets its contract. Assumes nothing.
+use native.Mathlib.Omega.{arith}
+use Rattle.place.specs.Kinds.{such}
+use Rattle.place.proofs.Shown.{from-all, from-cut, from-fits}
+use borrow.Author.Needs.{needs}
+use Rattle.place.proofs.shown_from.Statement.{statement}
+use Rattle.place.proofs.shown_from.Tie as tie
+
+returns : tie.Need-returns
+returns c = from-all _ _ _ (omega arith)
+
+sub-from : tie.Need-sub-from
+sub-from c = search needs
+
+sub-run : tie.Need-sub-run
+sub-run c = search needs
+
+part-run-start : tie.Need-part-run-start
+part-run-start c = search needs
+
+part-run-end : tie.Need-part-run-end
+part-run-end c = search needs
+
+run-requires : tie.Need-run-requires
+run-requires c κs = search needs
+
+returns-2 : tie.Need-returns-2
+unfolding such
+returns-2 c = from-cut _ _ _ _ (omega arith) (c .run .ensures)
+
+add-result : tie.Need-add-result
+add-result c = let h = from-fits _ _ _ (returns-2 c) in omega arith
+
+pub shown-from-spec : {M : Type 1} → statement M
+shown-from-spec =
+    tie.close
+    (tie.spec
+    returns
+    sub-from
+    sub-run
+    part-run-start
+    part-run-end
+    run-requires
+    add-result
+    returns-2)
