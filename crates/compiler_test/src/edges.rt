@@ -2,6 +2,7 @@
 ghost use Prim.Native.Nat.{_≤_};
 ghost use lib.ListN.{length};
 use crate::listings;
+use crate::say;
 use compiler::Answer;
 use libc::STDOUT_FILENO;
 
@@ -37,9 +38,9 @@ fn many(text: &mut [u8], at: usize, piece: &[u8], n: usize) -> usize
 fn judge(text: &[u8], table: &mut [i32]) {
     let a = compiler::compile(text, table);
     match a {
-        Answer::Accepted(n, cells, need) => lines::accepted(STDOUT_FILENO, n, cells, need),
+        Answer::Accepted(n, cells, need) => say::accepted(n, cells, need),
         Answer::Refused(n, p) => {
-            lines::refused(STDOUT_FILENO, n, p);
+            say::refused(n, p);
             listings::left(table, 0);
         }
     }

@@ -1,4 +1,5 @@
 // Whole listings: the answer, then each instruction of an accepted text.
+use crate::say;
 use compiler::Answer;
 use libc::STDOUT_FILENO;
 
@@ -21,19 +22,19 @@ pub fn left(table: &[i32], from: usize) {
 // The listing of a text, in a table that held other numbers.
 pub fn list(text: &[u8]) {
     io::write_all(STDOUT_FILENO, text);
-    lines::end_line(STDOUT_FILENO);
+    io::write_all(STDOUT_FILENO, b"\n");
     let mut table = [7i32; 8192];
     let a = compiler::compile(text, &mut table);
     match a {
         Answer::Accepted(n, cells, need) => {
-            lines::accepted(STDOUT_FILENO, n, cells, need);
-            lines::listing(STDOUT_FILENO, &table, n);
+            say::accepted(n, cells, need);
+            say::instructions(&table, n);
             if n < 5000 {
                 left(&table, n * 2);
             }
         }
         Answer::Refused(n, p) => {
-            lines::refused(STDOUT_FILENO, n, p);
+            say::refused(n, p);
             left(&table, 0);
         }
     }

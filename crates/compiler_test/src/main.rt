@@ -3,6 +3,7 @@
 mod edges;
 mod faults;
 mod listings;
+mod say;
 
 fn main() {
     listings::all();

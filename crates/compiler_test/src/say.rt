@@ -1,0 +1,30 @@
+// What the tests write, by the lines of the programs.
+use libc::STDOUT_FILENO;
+
+fn write(page: &[u8], n: usize) {
+    if n <= page.len() {
+        io::write_all(STDOUT_FILENO, &page[..n]);
+    }
+}
+
+pub fn accepted(instructions: usize, cells: usize, need: usize) {
+    let mut page = [0u8; 96];
+    let n = lines::accepted(&mut page, 0, instructions, cells, need);
+    write(&page, n);
+}
+
+pub fn refused(number: u8, place: usize) {
+    let mut page = [0u8; 96];
+    let n = lines::refused(&mut page, 0, number, place);
+    write(&page, n);
+}
+
+// A line for each of the first n instructions.
+pub fn instructions(table: &[i32], n: usize) {
+    let mut page = [0u8; 16384];
+    if n <= table.len() / 2 {
+        let end = n * 2;
+        let size = lines::instructions(&mut page, 0, &table[..end]);
+        write(&page, size);
+    }
+}
