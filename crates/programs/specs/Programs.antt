@@ -11,7 +11,7 @@ use Rattle.instruction.specs.Endings.{normal}
 use Rattle.instruction.specs.Instructions.{numbers}
 use Rattle.machine.specs.Machine.{Report}
 use Rattle.compiler.specs.Compiled.{Accepted, compiled, code-of-text}
-use Rattle.kit.specs.Kit.{worked-out, need-of}
+use Rattle.kit.specs.Kit.{worked-out, need-of, sendable}
 use Rattle.readings.specs.Readings.{readings}
 use Rattle.lines.specs.Lines.{line-end, refused-line, ending-line, accepted-line, table-lines}
 
@@ -62,10 +62,10 @@ told (refused n p) = record { out = refused-line n p; err = []; status = not-goo
 unfoldable pub station : Limits → Station → List ℕ → List ℕ → Said
 station limits s text input = told (came-on limits s text input)
 
--- ---- for the feed: only the output of a run with ending 0; on standard error, how any other ended; its status is good exactly when the output may be sent
+-- ---- for the feed: only what may be sent; on standard error, how any other run ended; its status is good exactly when the output may be sent
 
 unfoldable pub sent : Answer Report → Said
-sent (given r) = cond (eqb (r .ending) normal) (record { out = r .output; err = []; status = good }) (record { out = []; err = ending-line (r .ending) (r .steps); status = not-good })
+sent (given r) = record { out = sendable (r .ending) (length (r .output)) (r .output); err = cond (eqb (r .ending) normal) [] (ending-line (r .ending) (r .steps)); status = status-of (r .ending) }
 sent (refused n p) = record { out = []; err = refused-line n p; status = not-good }
 
 unfoldable pub feed : Limits → Station → List ℕ → List ℕ → Said

@@ -153,15 +153,17 @@ fn send(c: Came, room: &[u8; Station::ROOM], page: &mut [u8; PAGE], note: &mut [
             status: NOT_GOOD,
         },
         Came::Ran(r) => {
+            let all = output(r.length, room);
+            let out = lines::put(page, 0, kit::to_send(r.ending, all.len(), all));
             if r.ending == 0 {
                 return Said {
-                    out: lines::put(page, 0, output(r.length, room)),
+                    out,
                     err: 0,
                     status: GOOD,
                 };
             }
             Said {
-                out: 0,
+                out,
                 err: lines::ending(note, 0, r.ending, r.steps),
                 status: NOT_GOOD,
             }

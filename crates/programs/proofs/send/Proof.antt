@@ -1,11 +1,11 @@
 -- `programs::send` meets its contract. Assumes nothing.
-use Rattle.lines.proofs.Short.{Small, short-refused, short-ending}
-use Rattle.programs.proofs.Pages.{sent-refused, sent-ran, sent-not, output-short}
+use mathlib.Core.Path.{_≡_, _∙_}
+use Prim.Native.Nat.{_≤_}
 use native.Mathlib.Omega.{arith}
 use denote.Ref.{now}
-use mathlib.Core.Path.{_≡_}
-use Prim.Native.Nat.{_≤_}
 use lib.ListN.{length}
+use Rattle.lines.proofs.Short.{Small, short-refused, short-ending}
+use Rattle.programs.proofs.Pages.{sent-refused, sent-ran, sent-not, output-short}
 use borrow.Author.Needs.{needs}
 use Rattle.programs.proofs.send.Statement.{statement}
 use Rattle.programs.proofs.send.Tie as tie
@@ -22,14 +22,19 @@ enum-known-c-2 c = search needs
 output-requires : tie.Need-output-requires
 output-requires c κs = search needs
 
+to-send-requires : tie.Need-to-send-requires
+to-send-requires c κs = search needs
+
 put-requires : tie.Need-put-requires
 put-requires c κs = search needs
 
 returns : tie.Need-returns
 returns c =
-    let r : length (now (c .before .before .before .before .before .before .before .before .before .args .room)) ≡ 4096 = search needs in
-    let l : length (now (c .before .before .before .before .before .before .before .before .before .args .page)) ≡ 4192 = search needs in
-    sent-ran (now (c .before .before .before .before .before .before .before .before .before .args .room)) (c .before .before .before .before .before .before .before .c2 .given .1) (c .before .before .before .before .if1 .taken) (omega (arith, output-short (c .before .before .before .before .before .before .before .c2 .given .0 .0 .length) (now (c .before .before .before .before .before .before .before .before .before .args .room)), r, l)) (rw (c .before .output .ensures) at (c .put .ensures))
+    let r : length (now (c .before .before .before .before .before .before .before .before .before .before .args .room)) ≡ 4096 = search needs in
+    let l : length (now (c .before .before .before .before .before .before .before .before .before .before .args .page)) ≡ 4192 = search needs in
+    let few = output-short (c .before .before .before .before .before .before .before .before .c2 .given .0 .0 .length) (now (c .before .before .before .before .before .before .before .before .before .before .args .room)) in
+    let all = rw (c .before .before .before .to-send .ensures, c .before .before .before .before .before .output .ensures) at (c .before .before .put .ensures) in
+    sent-ran (now (c .before .before .before .before .before .before .before .before .before .before .args .room)) (c .before .before .before .before .before .before .before .before .c2 .given .1) (omega arith) all (c .if1 .taken)
 
 ending-requires : tie.Need-ending-requires
 ending-requires c κs = search needs
@@ -43,10 +48,14 @@ returns-2 c =
 
 returns-3 : tie.Need-returns-3
 returns-3 c =
-    let e : Small (c .before .before .before .before .before .c2 .given .0 .0 .ending) = search needs in
-    let n : Small (c .before .before .before .before .before .c2 .given .0 .0 .steps) = search needs in
-    let l : 96 ≤ length (now (c .before .before .before .before .before .before .before .args .note)) = search needs in
-    sent-not (now (c .before .before .before .before .before .before .before .args .room)) (c .before .before .before .before .before .c2 .given .1) (c .before .before .if1 .left) (omega (arith, short-ending (c .before .before .before .before .before .c2 .given .0 .0 .ending) (c .before .before .before .before .before .c2 .given .0 .0 .steps) e n, l)) (c .ending .ensures)
+    let r : length (now (c .before .before .before .before .before .before .before .before .before .before .before .before .args .room)) ≡ 4096 = search needs in
+    let l : length (now (c .before .before .before .before .before .before .before .before .before .before .before .before .args .page)) ≡ 4192 = search needs in
+    let few = output-short (c .before .before .before .before .before .before .before .before .before .before .c2 .given .0 .0 .length) (now (c .before .before .before .before .before .before .before .before .before .before .before .before .args .room)) in
+    let all = rw (c .before .before .before .before .before .to-send .ensures, c .before .before .before .before .before .before .before .output .ensures) at (c .before .before .before .before .put .ensures) in
+    let e : Small (c .before .before .before .before .before .before .before .before .before .before .c2 .given .0 .0 .ending) = search needs in
+    let n : Small (c .before .before .before .before .before .before .before .before .before .before .c2 .given .0 .0 .steps) = search needs in
+    let k : 96 ≤ length (now (c .before .before .before .before .before .before .before .before .before .before .before .before .args .note)) = search needs in
+    sent-not (now (c .before .before .before .before .before .before .before .before .before .before .before .before .args .room)) (c .before .before .before .before .before .before .before .before .before .before .c2 .given .1) (omega arith) all (c .before .before .if1 .left) (omega (arith, short-ending (c .before .before .before .before .before .before .before .before .before .before .c2 .given .0 .0 .ending) (c .before .before .before .before .before .before .before .before .before .before .c2 .given .0 .0 .steps) e n, k)) (c .ending .ensures)
 
 pub send-spec : {M : Type 1} → statement M
 send-spec =
@@ -56,6 +65,7 @@ send-spec =
     refused-requires
     enum-known-c-2
     output-requires
+    to-send-requires
     put-requires
     returns
     ending-requires
