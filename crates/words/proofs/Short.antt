@@ -1,0 +1,84 @@
+-- The words are at most 160 bytes long. Assumes nothing.
+use mathlib.Core.Bool.{Bool, true, false, cond}
+use mathlib.Core.List.{List, _++_}
+use Prim.Native.Nat.{ℕ, _+_, _≤_}
+use Prim.Native.String.{String}
+use native.Mathlib.Omega.{arith}
+use lib.Dec.{eqb, leb}
+use lib.ListN.{length, getD, length-append}
+use Rattle.lexeme.specs.Bytes.{bytes, bytes-from, letter-or-digit, digit}
+use Rattle.lines.specs.Lines.{counted}
+use Rattle.lines.proofs.Short.{Small, short-natural}
+use Rattle.words.specs.Words.{no-lexeme, too-large, cannot-stand, why-later, why, how-later, how}
+use Rattle.words.specs.declared.Numbers.{Numbers}
+
+Brief : List ℕ → Type 0
+Brief s = length s ≤ 160
+
+either : (t : Bool) (a b : List ℕ) → Brief a → Brief b → Brief (cond t a b)
+either true a b p q = p
+either false a b p q = q
+
+-- the numbers are the code's
+pub record Fit (n : Numbers) : Type 0 where
+  pub text : Small (n .text)
+  pub word : Small (n .word)
+  pub string : Small (n .string)
+  pub literal : Small (n .literal)
+  pub nesting : Small (n .nesting)
+  pub declarations : Small (n .declarations)
+  pub instructions : Small (n .instructions)
+  pub budget : Small (n .budget)
+  pub room : Small (n .room)
+
+short-no-lexeme : (b : ℕ) → Brief (no-lexeme b)
+unfolding no-lexeme bytes bytes-from Brief
+short-no-lexeme b = either (eqb b 34) _ _ (omega arith) (either (eqb b 58) _ _ (omega arith) (either (letter-or-digit b) _ _ (omega arith) (omega arith)))
+
+short-cannot-stand : (t : Bool) → Brief (cannot-stand t)
+unfolding cannot-stand bytes bytes-from Brief
+short-cannot-stand true = omega arith
+short-cannot-stand false = omega arith
+
+module _ (n : Numbers) (fit : Fit n) where
+  short-too-large : (b : ℕ) → Brief (too-large n b)
+  unfolding too-large counted bytes bytes-from Brief
+  short-too-large b =
+      either (eqb b 34) _ _ (simp length-append (omega (arith, short-natural (n .string) (fit .string))))
+      (either (digit b) _ _ (simp length-append (omega (arith, short-natural (n .literal) (fit .literal))))
+      (simp length-append (omega (arith, short-natural (n .word) (fit .word)))))
+
+  short-why-later : (number : ℕ) → Brief (why-later n number)
+  unfolding why-later counted bytes bytes-from Brief
+  short-why-later number =
+      either (eqb number 5) _ _ (simp length-append (omega (arith, short-natural (n .nesting) (fit .nesting))))
+      (either (eqb number 6) _ _ (omega arith)
+      (either (eqb number 7) _ _ (simp length-append (omega (arith, short-natural (n .declarations) (fit .declarations))))
+      (simp length-append (omega (arith, short-natural (n .instructions) (fit .instructions))))))
+
+  pub short-why : (text : List ℕ) (number place : ℕ) → length (why n text number place) ≤ 160
+  unfolding why counted bytes bytes-from Brief
+  short-why text number place =
+      either (eqb number 1) _ _ (simp length-append (omega (arith, short-natural (n .text) (fit .text))))
+      (either (eqb number 2) _ _ (short-no-lexeme _)
+      (either (eqb number 3) _ _ (short-too-large _)
+      (either (eqb number 4) _ _ (short-cannot-stand _)
+      (short-why-later number))))
+
+  short-how-later : (ending : ℕ) → Brief (how-later n ending)
+  unfolding how-later counted bytes bytes-from Brief
+  short-how-later ending =
+      either (eqb ending 5) _ _ (omega arith)
+      (either (eqb ending 6) _ _ (omega arith)
+      (either (eqb ending 7) _ _ (simp length-append (omega (arith, short-natural (n .room) (fit .room))))
+      (omega arith)))
+
+  pub short-how : (ending : ℕ) → length (how n ending) ≤ 160
+  unfolding how counted bytes bytes-from Brief
+  short-how ending =
+      either (eqb ending 0) _ _ (omega arith)
+      (either (eqb ending 1) _ _ (omega arith)
+      (either (eqb ending 2) _ _ (simp length-append (omega (arith, short-natural (n .budget) (fit .budget))))
+      (either (eqb ending 3) _ _ (omega arith)
+      (either (eqb ending 4) _ _ (omega arith)
+      (short-how-later ending)))))

@@ -1,0 +1,66 @@
+-- Document 01, "Refused texts" and "How a run ends", in plain words: what is wrong, and what to look for.
+use mathlib.Core.List.{List, _++_}
+use mathlib.Core.Bool.{Bool, true, false, cond}
+use Prim.Native.Nat.{ℕ}
+use Prim.Native.Char.{code}
+use lib.Dec.{eqb, leb}
+use lib.ListN.{length, getD}
+use Rattle.lexeme.specs.Bytes.{bytes, letter-or-digit, digit}
+use Rattle.lines.specs.Lines.{counted}
+use Rattle.words.specs.declared.Numbers.{Numbers}
+
+-- ---- why a text is refused
+
+-- 2, by the byte at the place
+unfoldable pub no-lexeme : ℕ → List ℕ
+no-lexeme b =
+    cond (eqb b (code "\"")) (bytes "This string is never closed. Is a quote missing at its end?")
+    (cond (eqb b (code ":")) (bytes "A colon stands only before =, as in t := 1.")
+    (cond (letter-or-digit b) (bytes "This word mixes letters and digits. A name has only letters, a number only digits.")
+    (bytes "O does not use this character.")))
+
+-- 3, likewise
+unfoldable pub too-large : Numbers → ℕ → List ℕ
+too-large n b =
+    cond (eqb b (code "\"")) (counted "This string has more than " (n .string) ++ bytes " bytes between its quotes. Print it in parts.")
+    (cond (digit b) (counted "This number is larger than " (n .literal) ++ bytes ", the largest there is.")
+    (counted "This word has more than " (n .word) ++ bytes " letters. Choose a shorter one."))
+
+-- 4, by whether the text ends there
+unfoldable pub cannot-stand : Bool → List ℕ
+cannot-stand true = bytes "The text ends here, and the program is not finished. Is a } or a command missing?"
+cannot-stand false = bytes "This cannot stand here. Read the sentence aloud up to the mark: what should follow?"
+
+-- the names, the nestings and the code
+unfoldable pub why-later : Numbers → ℕ → List ℕ
+why-later n number =
+    cond (eqb number 5) (counted "This is too deep: of ( { IF WHILE NOT only " (n .nesting) ++ bytes " may be open at once. Split the sentence.")
+    (cond (eqb number 6) (bytes "This name is not declared here. Write INT and the name before it, in this block or in one around it.")
+    (cond (eqb number 7) (counted "This is one declaration too many: a text may have " (n .declarations) ++ bytes ". Use fewer variables.")
+    (counted "The program is too long: its code may have " (n .instructions) ++ bytes " instructions. Make it shorter.")))
+
+unfoldable pub why : Numbers → List ℕ → ℕ → ℕ → List ℕ
+why n text number place =
+    cond (eqb number 1) (counted "The text is longer than " (n .text) ++ bytes " bytes. Make it shorter.")
+    (cond (eqb number 2) (no-lexeme (getD text place 0))
+    (cond (eqb number 3) (too-large n (getD text place 0))
+    (cond (eqb number 4) (cannot-stand (leb (length text) place))
+    (why-later n number))))
+
+-- ---- how a run ended
+
+unfoldable pub how-later : Numbers → ℕ → List ℕ
+how-later n ending =
+    cond (eqb ending 5) (bytes "It divided by 0. Test for 0 before you divide.")
+    (cond (eqb ending 6) (bytes "The stack was full.")
+    (cond (eqb ending 7) (counted "The output does not fit its " (n .room) ++ bytes " bytes. Print less.")
+    (bytes "The code was bad.")))
+
+unfoldable pub how : Numbers → ℕ → List ℕ
+how n ending =
+    cond (eqb ending 0) (bytes "It came to its end. What it printed may be sent on.")
+    (cond (eqb ending 1) (bytes "It met ERROR: the program itself says that something is wrong.")
+    (cond (eqb ending 2) (counted "It used up its " (n .budget) ++ bytes " steps. Is there a WHILE whose condition stays true?")
+    (cond (eqb ending 3) (bytes "READ found no reading left. Give it more readings, or read fewer.")
+    (cond (eqb ending 4) (bytes "A result was outside -2147483648 to 2147483647. Which sum or product grows so large?")
+    (how-later n ending)))))

@@ -1,0 +1,265 @@
+// The refusals and the endings in plain words, added to a page.
+ghost use mathlib.Core.Path.{_≡_};
+ghost use mathlib.Core.List.{_++_};
+ghost use lib.IntN.{pos};
+ghost use lib.ListN.{getD};
+ghost use Rattle.instruction.specs.Numbers.{decimal};
+ghost use Rattle.lines.specs.Added.{Added};
+ghost use Rattle.words.specs.Words.{no-lexeme, too-large, cannot-stand, why-later, why, how-later, how};
+use lexeme::Such;
+use limits::Limits;
+use limits::Station;
+
+// The numbers that the words name.
+pub struct Numbers {
+    pub text: usize,
+    pub word: usize,
+    pub string: usize,
+    pub literal: u32,
+    pub nesting: usize,
+    pub declarations: usize,
+    pub instructions: usize,
+    pub budget: u32,
+    pub room: usize,
+}
+
+// The paper's.
+pub fn of_the_paper() -> Numbers
+    ensures { λ r. do ⌜ (r .text ≡ (← ⟦Limits::TEXT⟧ .entry)) × (r .nesting ≡ (← ⟦Limits::NESTING⟧ .entry)) × (r .declarations ≡ (← ⟦Limits::DECLARATIONS⟧ .entry)) × (r .instructions ≡ (← ⟦Limits::INSTRUCTIONS⟧ .entry)) ⌝ }
+    ensures { λ r. do ⌜ (r .word ≡ (← ⟦Limits::WORD⟧ .entry)) × (r .string ≡ (← ⟦Limits::STRING⟧ .entry)) × (r .literal ≡ (← ⟦Limits::LITERAL⟧ .entry)) ⌝ }
+    ensures { λ r. do ⌜ (r .budget ≡ (← ⟦Station::BUDGET⟧ .entry)) × (r .room ≡ (← ⟦Station::ROOM⟧ .entry)) ⌝ }
+{
+    Numbers {
+        text: Limits::TEXT,
+        word: Limits::WORD,
+        string: Limits::STRING,
+        literal: Limits::LITERAL,
+        nesting: Limits::NESTING,
+        declarations: Limits::DECLARATIONS,
+        instructions: Limits::INSTRUCTIONS,
+        budget: Station::BUDGET,
+        room: Station::ROOM,
+    }
+}
+
+// Words around a number.
+fn around(page: &mut [u8], at: usize, label: &[u8], n: u64, more: &[u8]) -> usize
+    ensures { λ r. ⌜ Added (now (label .entry) ++ decimal (pos n) ++ now (more .entry)) (now (page .entry)) at (now (page .exit)) r ⌝ }
+{
+    let next = lines::put_counted(page, at, label, n);
+    lines::put(page, next, more)
+}
+
+fn put_no_lexeme(page: &mut [u8], at: usize, b: u8) -> usize
+    ensures { λ r. ⌜ Added (no-lexeme b) (now (page .entry)) at (now (page .exit)) r ⌝ }
+{
+    if b == b'"' {
+        return lines::put(
+            page,
+            at,
+            b"This string is never closed. Is a quote missing at its end?",
+        );
+    }
+    if b == b':' {
+        return lines::put(page, at, b"A colon stands only before =, as in t := 1.");
+    }
+    if lexeme::is_such(Such::LetterOrDigit, b) {
+        return lines::put(
+            page,
+            at,
+            b"This word mixes letters and digits. A name has only letters, a number only digits.",
+        );
+    }
+    lines::put(page, at, b"O does not use this character.")
+}
+
+fn put_too_large(page: &mut [u8], at: usize, n: Numbers, b: u8) -> usize
+    ensures { λ r. ⌜ Added (too-large n b) (now (page .entry)) at (now (page .exit)) r ⌝ }
+{
+    if b == b'"' {
+        return around(
+            page,
+            at,
+            b"This string has more than ",
+            n.string as u64,
+            b" bytes between its quotes. Print it in parts.",
+        );
+    }
+    if lexeme::is_digit(b) {
+        return around(
+            page,
+            at,
+            b"This number is larger than ",
+            n.literal as u64,
+            b", the largest there is.",
+        );
+    }
+    around(
+        page,
+        at,
+        b"This word has more than ",
+        n.word as u64,
+        b" letters. Choose a shorter one.",
+    )
+}
+
+fn put_cannot_stand(page: &mut [u8], at: usize, ends: bool) -> usize
+    ensures { λ r. ⌜ Added (cannot-stand ends) (now (page .entry)) at (now (page .exit)) r ⌝ }
+{
+    if ends {
+        return lines::put(
+            page,
+            at,
+            b"The text ends here, and the program is not finished. Is a } or a command missing?",
+        );
+    }
+    lines::put(
+        page,
+        at,
+        b"This cannot stand here. Read the sentence aloud up to the mark: what should follow?",
+    )
+}
+
+// The byte at a place, or 0 past the text.
+fn byte_at(text: &[u8], place: usize) -> u8
+    ensures { λ r. ⌜ r ≡ getD (now (text .entry)) place 0 ⌝ }
+{
+    if place < text.len() {
+        return text[place];
+    }
+    0
+}
+
+fn put_why_later(page: &mut [u8], at: usize, n: Numbers, number: u8) -> usize
+    ensures { λ r. ⌜ Added (why-later n number) (now (page .entry)) at (now (page .exit)) r ⌝ }
+{
+    if number == 5 {
+        return around(
+            page,
+            at,
+            b"This is too deep: of ( { IF WHILE NOT only ",
+            n.nesting as u64,
+            b" may be open at once. Split the sentence.",
+        );
+    }
+    if number == 6 {
+        return lines::put(
+            page,
+            at,
+            b"This name is not declared here. Write INT and the name before it, in this block or in one around it.",
+        );
+    }
+    if number == 7 {
+        return around(
+            page,
+            at,
+            b"This is one declaration too many: a text may have ",
+            n.declarations as u64,
+            b". Use fewer variables.",
+        );
+    }
+    around(
+        page,
+        at,
+        b"The program is too long: its code may have ",
+        n.instructions as u64,
+        b" instructions. Make it shorter.",
+    )
+}
+
+// Why a text is refused.
+pub fn put_why(
+    page: &mut [u8],
+    at: usize,
+    n: Numbers,
+    text: &[u8],
+    number: u8,
+    place: usize,
+) -> usize
+    ensures { λ r. ⌜ Added (why n (now (text .entry)) number place) (now (page .entry)) at (now (page .exit)) r ⌝ }
+{
+    if number == 1 {
+        return around(
+            page,
+            at,
+            b"The text is longer than ",
+            n.text as u64,
+            b" bytes. Make it shorter.",
+        );
+    }
+    if number == 2 {
+        return put_no_lexeme(page, at, byte_at(text, place));
+    }
+    if number == 3 {
+        return put_too_large(page, at, n, byte_at(text, place));
+    }
+    if number == 4 {
+        return put_cannot_stand(page, at, text.len() <= place);
+    }
+    put_why_later(page, at, n, number)
+}
+
+fn put_how_later(page: &mut [u8], at: usize, n: Numbers, ending: u8) -> usize
+    ensures { λ r. ⌜ Added (how-later n ending) (now (page .entry)) at (now (page .exit)) r ⌝ }
+{
+    if ending == 5 {
+        return lines::put(page, at, b"It divided by 0. Test for 0 before you divide.");
+    }
+    if ending == 6 {
+        return lines::put(page, at, b"The stack was full.");
+    }
+    if ending == 7 {
+        return around(
+            page,
+            at,
+            b"The output does not fit its ",
+            n.room as u64,
+            b" bytes. Print less.",
+        );
+    }
+    lines::put(page, at, b"The code was bad.")
+}
+
+// How a run ended.
+pub fn put_how(page: &mut [u8], at: usize, n: Numbers, ending: u8) -> usize
+    ensures { λ r. ⌜ Added (how n ending) (now (page .entry)) at (now (page .exit)) r ⌝ }
+{
+    if ending == 0 {
+        return lines::put(
+            page,
+            at,
+            b"It came to its end. What it printed may be sent on.",
+        );
+    }
+    if ending == 1 {
+        return lines::put(
+            page,
+            at,
+            b"It met ERROR: the program itself says that something is wrong.",
+        );
+    }
+    if ending == 2 {
+        return around(
+            page,
+            at,
+            b"It used up its ",
+            n.budget as u64,
+            b" steps. Is there a WHILE whose condition stays true?",
+        );
+    }
+    if ending == 3 {
+        return lines::put(
+            page,
+            at,
+            b"READ found no reading left. Give it more readings, or read fewer.",
+        );
+    }
+    if ending == 4 {
+        return lines::put(
+            page,
+            at,
+            b"A result was outside -2147483648 to 2147483647. Which sum or product grows so large?",
+        );
+    }
+    put_how_later(page, at, n, ending)
+}
