@@ -86,7 +86,7 @@ pub fn listing(text: &[u8], page: &mut [u8; LISTING]) -> Said
 }
 
 // Good exactly with ending 0.
-fn status_of(ending: u8) -> u8
+pub fn status_of(ending: u8) -> u8
     ensures { λ r. ⌜ r ≡ status-of ending ⌝ }
 {
     if ending == 0 {
@@ -96,7 +96,7 @@ fn status_of(ending: u8) -> u8
 }
 
 // The output of a run stands at the beginning of its room.
-fn output(length: usize, room: &[u8]) -> &[u8]
+pub fn output(length: usize, room: &[u8]) -> &[u8]
     ensures { λ r. ⌜ now r ≡ take length (now (room .entry)) ⌝ }
 {
     if room.len() <= length {

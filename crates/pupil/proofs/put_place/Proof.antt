@@ -1,0 +1,67 @@
+-- `pupil::put_place` meets its contract. Assumes nothing.
+use Rattle.lines.proofs.Adds.{adds-then}
+use Rattle.lexeme.specs.Bytes.{bytes, bytes-from}
+use Rattle.lines.specs.Lines.{counted}
+use Prim.Native.Nat.{_≤_}
+use native.Mathlib.Omega.{arith}
+use denote.Ref.{now}
+use lib.ListN.{length}
+use Rattle.place.specs.Places.{spot}
+use Rattle.place.proofs.Lengths.{marked-fits}
+use Rattle.lines.proofs.Short.{Small}
+use Rattle.pupil.specs.Shows.{at-place}
+use Rattle.pupil.proofs.Short.{short-place}
+use borrow.Author.Needs.{needs}
+use Rattle.pupil.proofs.put_place.Statement.{statement}
+use Rattle.pupil.proofs.put_place.Tie as tie
+
+spot-of-requires : tie.Need-spot-of-requires
+spot-of-requires c κs = search needs
+
+slice-aggregate-put-counted : tie.Need-slice-aggregate-put-counted
+slice-aggregate-put-counted c = search needs
+
+put-counted-requires : tie.Need-put-counted-requires
+put-counted-requires c κs = search needs
+
+slice-aggregate-put-counted-2 : tie.Need-slice-aggregate-put-counted-2
+slice-aggregate-put-counted-2 c = search needs
+
+put-counted-requires-2 : tie.Need-put-counted-requires-2
+put-counted-requires-2 c κs = search needs
+
+slice-aggregate-put : tie.Need-slice-aggregate-put
+slice-aggregate-put c = search needs
+
+put-requires : tie.Need-put-requires
+put-requires c κs = search needs
+
+put-marked-line-requires : tie.Need-put-marked-line-requires
+put-marked-line-requires c κs = search needs
+
+same-length : tie.Need-same-length
+same-length c = search needs
+
+returns : tie.Need-returns
+unfolding at-place counted bytes bytes-from
+returns c =
+    let l : Small (c .before .before .before .before .before .before .before .before .before .before .before .before .before .before .before .before .before .before .before .spot-of .result .line) = search needs in
+    let k : Small (c .before .before .before .before .before .before .before .before .before .before .before .before .before .before .before .before .before .before .before .spot-of .result .column) = search needs in (
+      rw (c .before .before .before .before .before .before .before .before .before .before .before .before .before .before .before .before .before .before .before .spot-of .ensures) at (adds-then (adds-then (adds-then (c .before .before .before .before .before .before .before .before .before .before .before .before .before .before .before .before .put-counted .ensures) (c .before .before .before .before .before .before .before .before .before .before .before .put-counted2 .ensures)) (c .before .before .before .before .before .before .put .ensures)) (c .before .before .put-marked-line .ensures)),
+      short-place _ (now (c .before .before .before .before .before .before .before .before .before .before .before .before .before .before .before .before .before .before .before .before .before .before .args .text)) (c .before .before .before .before .before .before .before .before .before .before .before .before .before .before .before .before .before .before .before .before .before .before .args .place) (rw (c .before .before .before .before .before .before .before .before .before .before .before .before .before .before .before .before .before .before .before .spot-of .ensures) at l) (rw (c .before .before .before .before .before .before .before .before .before .before .before .before .before .before .before .before .before .before .before .spot-of .ensures) at k) (marked-fits _ (now (c .before .before .before .before .before .before .before .before .before .before .before .before .before .before .before .before .before .before .before .before .before .before .args .text)) (c .before .before .before .before .before .before .before .before .before .before .before .before .before .before .before .before .before .before .before .before .before .before .args .place)),
+    )
+
+pub put-place-spec : {M : Type 1} → statement M
+put-place-spec =
+    tie.close
+    (tie.spec
+    spot-of-requires
+    slice-aggregate-put-counted
+    put-counted-requires
+    slice-aggregate-put-counted-2
+    put-counted-requires-2
+    slice-aggregate-put
+    put-requires
+    put-marked-line-requires
+    same-length
+    returns)

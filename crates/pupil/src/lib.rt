@@ -1,0 +1,112 @@
+// What came of a text in plain words, for a pupil, into a page that is lent.
+ghost use mathlib.Core.Path.{_≡_};
+ghost use mathlib.Core.Bool.{cond};
+ghost use mathlib.Core.List.{[]};
+ghost use Prim.Native.Nat.{_+_, _≤_};
+ghost use lib.ListN.{length};
+ghost use Rattle.lexeme.specs.Bytes.{bytes};
+ghost use Rattle.lines.specs.Added.{Added};
+ghost use Rattle.programs.specs.Says.{Says, with-output};
+ghost use Rattle.pupil.specs.Shows.{has-place, at-place, shown-refusal, shown-output, steps-taken, shown-run, shown};
+use limits::Station;
+use machine::Report;
+use place::Window;
+use programs::Came;
+use programs::Said;
+use words::Numbers;
+
+// Room for what is said of a run, or of a refusal.
+pub const SHOWN: usize = Station::ROOM + 512;
+
+fn has_place(number: u8) -> bool
+    ensures { λ r. ⌜ r ≡ has-place number ⌝ }
+{
+    if number == 1 {
+        return false;
+    }
+    number != 8
+}
+
+// Line, column, and the line with a mark under the place.
+fn put_place(page: &mut [u8], at: usize, text: &[u8], place: usize) -> usize
+    ensures { λ r. do ⌜ Added (at-place (record { whole = (← ⟦Window::WHOLE⟧ .entry); last = (← ⟦Window::LAST⟧ .entry); next = (← ⟦Window::NEXT⟧ .entry); rest = (← ⟦Window::REST⟧ .entry) }) (now (text .entry)) place) (now (page .entry)) at (now (page .exit)) r ⌝ }
+    ensures { λ _. do ⌜ length (at-place (record { whole = (← ⟦Window::WHOLE⟧ .entry); last = (← ⟦Window::LAST⟧ .entry); next = (← ⟦Window::NEXT⟧ .entry); rest = (← ⟦Window::REST⟧ .entry) }) (now (text .entry)) place) ≤ 227 ⌝ }
+{
+    let spot = place::spot_of(text, place);
+    let a = lines::put_counted(page, at, b", line ", spot.line as u64);
+    let b = lines::put_counted(page, a, b", column ", spot.column as u64);
+    let c = lines::put(page, b, b":\n");
+    place::put_marked_line(page, c, text, place)
+}
+
+fn put_where(page: &mut [u8], at: usize, text: &[u8], number: u8, place: usize) -> usize
+    ensures { λ r. do ⌜ Added (cond (has-place number) (at-place (record { whole = (← ⟦Window::WHOLE⟧ .entry); last = (← ⟦Window::LAST⟧ .entry); next = (← ⟦Window::NEXT⟧ .entry); rest = (← ⟦Window::REST⟧ .entry) }) (now (text .entry)) place) (bytes ":\n")) (now (page .entry)) at (now (page .exit)) r ⌝ }
+    ensures { λ _. do ⌜ length (cond (has-place number) (at-place (record { whole = (← ⟦Window::WHOLE⟧ .entry); last = (← ⟦Window::LAST⟧ .entry); next = (← ⟦Window::NEXT⟧ .entry); rest = (← ⟦Window::REST⟧ .entry) }) (now (text .entry)) place) (bytes ":\n")) ≤ 227 ⌝ }
+{
+    if has_place(number) {
+        return put_place(page, at, text, place);
+    }
+    lines::put(page, at, b":\n")
+}
+
+fn put_refusal(page: &mut [u8], n: Numbers, text: &[u8], number: u8, place: usize) -> usize
+    ensures { λ r. do ⌜ Added (shown-refusal (record { whole = (← ⟦Window::WHOLE⟧ .entry); last = (← ⟦Window::LAST⟧ .entry); next = (← ⟦Window::NEXT⟧ .entry); rest = (← ⟦Window::REST⟧ .entry) }) n (now (text .entry)) number place) (now (page .entry)) 0 (now (page .exit)) r ⌝ }
+    ensures { λ _. do ⌜ length (shown-refusal (record { whole = (← ⟦Window::WHOLE⟧ .entry); last = (← ⟦Window::LAST⟧ .entry); next = (← ⟦Window::NEXT⟧ .entry); rest = (← ⟦Window::REST⟧ .entry) }) n (now (text .entry)) number place) ≤ 512 ⌝ }
+{
+    let a = lines::put_counted(page, 0, b"refusal ", number as u64);
+    let b = put_where(page, a, text, number, place);
+    let c = words::put_why(page, b, n, text, number, place);
+    lines::put(page, c, b"\n")
+}
+
+fn put_output(page: &mut [u8], output: &[u8]) -> usize
+    ensures { λ r. ⌜ Added (shown-output (now (output .entry))) (now (page .entry)) 0 (now (page .exit)) r ⌝ }
+{
+    if output.len() == 0 {
+        return lines::put(page, 0, b"(nothing was printed)");
+    }
+    lines::put(page, 0, output)
+}
+
+fn put_steps(page: &mut [u8], at: usize, ending: u8, steps: u32, budget: u32) -> usize
+    ensures { λ r. ⌜ Added (steps-taken ending steps budget) (now (page .entry)) at (now (page .exit)) r ⌝ }
+{
+    let a = lines::put_counted(page, at, b"\nending ", ending as u64);
+    let b = lines::put_counted(page, a, b" after ", steps as u64);
+    let c = lines::put_counted(page, b, b" of ", budget as u64);
+    lines::put(page, c, b" steps: ")
+}
+
+fn put_run(page: &mut [u8], n: Numbers, r: Report, output: &[u8]) -> usize
+    ensures { λ e. ⌜ Added (shown-run n (record { ending = r .ending; steps = r .steps; used = r .used; output = now (output .entry) })) (now (page .entry)) 0 (now (page .exit)) e ⌝ }
+    ensures { λ _. ⌜ length (shown-run n (record { ending = r .ending; steps = r .steps; used = r .used; output = now (output .entry) })) ≤ length (now (output .entry)) + 512 ⌝ }
+{
+    let a = put_output(page, output);
+    let b = put_steps(page, a, r.ending, r.steps, n.budget);
+    let c = words::put_how(page, b, n, r.ending);
+    lines::put(page, c, b"\n")
+}
+
+// What came of a text in plain words.
+pub fn show(
+    c: Came,
+    n: Numbers,
+    text: &[u8],
+    room: &[u8; Station::ROOM],
+    page: &mut [u8; SHOWN],
+) -> Said
+    ensures { λ r. do ⌜ Says (shown (record { whole = (← ⟦Window::WHOLE⟧ .entry); last = (← ⟦Window::LAST⟧ .entry); next = (← ⟦Window::NEXT⟧ .entry); rest = (← ⟦Window::REST⟧ .entry) }) n (now (text .entry)) (with-output c (now (room .entry)))) r (now (page .entry)) (now (page .exit)) [] [] ⌝ }
+{
+    match c {
+        Came::Refused(number, place) => Said {
+            out: put_refusal(page, n, text, number, place),
+            err: 0,
+            status: programs::NOT_GOOD,
+        },
+        Came::Ran(r) => Said {
+            out: put_run(page, n, r, programs::output(r.length, room)),
+            err: 0,
+            status: programs::status_of(r.ending),
+        },
+    }
+}
