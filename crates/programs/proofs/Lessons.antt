@@ -1,5 +1,5 @@
 -- What comes of a text: its stack need is never more than the instructions, so that it always runs. Assumes nothing.
-use mathlib.Core.Path.{_≡_, refl, sym, ap, _∙_}
+use mathlib.Core.Path.{_≡_, refl, sym}
 use mathlib.Core.Bool.{Bool, true, false, cond, _||_}
 use mathlib.Core.List.{List}
 use Prim.Native.Nat.{ℕ, _*_, _/_, _≤_, _<_}
@@ -9,14 +9,13 @@ use lib.Dec.{ltb}
 use lib.IntN.{ℤ}
 use lib.ListN.{length, take, drop}
 use lib.Seq.{take-at}
-use Rattle.limits.specs.Limits.{Limits, Station}
+use Rattle.limits.specs.Limits.{Limits}
 use Rattle.lexeme.specs.Answers.{Answer, given, refused, pass}
 use Rattle.machine.specs.Machine.{Report, room-after}
 use Rattle.machine.specs.declared.Report as Code
 use Rattle.meaning.proofs.Needs.{need-within}
 use Rattle.compiler.specs.Compiled.{Accepted, fitting, lexed, laid-out, compiled, code-of-text}
 use Rattle.kit.specs.Kit.{worked-out, need-of, Comes-to, refused-so, stack-too-short, ran}
-use Rattle.kit.specs.Kit as Kit
 use Rattle.kit.specs.declared.Outcome.{Outcome}
 use Rattle.kit.specs.declared.Outcome.the-variants as outcome
 use Rattle.programs.specs.Programs.{judged, came}

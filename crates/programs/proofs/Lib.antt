@@ -1,3 +1,4 @@
+pub mod Beginnings
 pub mod Lessons
 pub mod Listings
 pub mod Pages

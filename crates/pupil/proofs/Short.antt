@@ -1,18 +1,16 @@
 -- How long it is what is shown. Assumes nothing.
 use mathlib.Core.Bool.{Bool, true, false, cond}
-use mathlib.Core.List.{List, _++_}
+use mathlib.Core.List.{List}
 use Prim.Native.Nat.{ℕ, _+_, _≤_}
 use native.Mathlib.Omega.{arith}
 use lib.Dec.{eqb}
 use lib.ListN.{length, length-append}
 use Rattle.lexeme.specs.Bytes.{bytes, bytes-from}
 use Rattle.machine.specs.Machine.{Report}
-use Rattle.lines.specs.Lines.{counted}
 use Rattle.lines.proofs.Short.{Small, short-counted}
 use Rattle.place.specs.Places.{spot}
 use Rattle.place.specs.Shown.{Widths, marked-line}
 use Rattle.words.proofs.Short.{Fit, short-why, short-how}
-use Rattle.words.specs.Words.{why, how}
 use Rattle.words.specs.declared.Numbers.{Numbers}
 use Rattle.pupil.specs.Shows.{has-place, at-place, shown-refusal, shown-output, steps-taken, shown-run}
 

@@ -1,11 +1,10 @@
 -- The words are at most 160 bytes long. Assumes nothing.
 use mathlib.Core.Bool.{Bool, true, false, cond}
-use mathlib.Core.List.{List, _++_}
-use Prim.Native.Nat.{ℕ, _+_, _≤_}
-use Prim.Native.String.{String}
+use mathlib.Core.List.{List}
+use Prim.Native.Nat.{ℕ, _≤_}
 use native.Mathlib.Omega.{arith}
 use lib.Dec.{eqb, leb}
-use lib.ListN.{length, getD, length-append}
+use lib.ListN.{length, length-append}
 use Rattle.lexeme.specs.Bytes.{bytes, bytes-from, letter-or-digit, digit}
 use Rattle.lines.specs.Lines.{counted}
 use Rattle.lines.proofs.Short.{Small, short-natural}
@@ -33,7 +32,7 @@ pub record Fit (n : Numbers) : Type 0 where
 
 short-no-lexeme : (b : ℕ) → Brief (no-lexeme b)
 unfolding no-lexeme bytes bytes-from Brief
-short-no-lexeme b = either (eqb b 34) _ _ (omega arith) (either (eqb b 58) _ _ (omega arith) (either (letter-or-digit b) _ _ (omega arith) (omega arith)))
+short-no-lexeme b = either (eqb b 34) _ _ (omega arith) (either (eqb b 58) _ _ (omega arith) (either (letter-or-digit b) _ _ (omega arith) (either (leb 128 b) _ _ (omega arith) (omega arith))))
 
 short-cannot-stand : (t : Bool) → Brief (cannot-stand t)
 unfolding cannot-stand bytes bytes-from Brief

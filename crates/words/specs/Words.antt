@@ -17,7 +17,8 @@ no-lexeme b =
     cond (eqb b (code "\"")) (bytes "This string is never closed. Is a quote missing at its end?")
     (cond (eqb b (code ":")) (bytes "A colon stands only before =, as in t := 1.")
     (cond (letter-or-digit b) (bytes "This word mixes letters and digits. A name has only letters, a number only digits.")
-    (bytes "O does not use this character.")))
+    (cond (leb 128 b) (bytes "O has only plain characters. Is this a quotation mark of another kind? A string stands between two of these: \"")
+    (bytes "O does not use this character."))))
 
 -- 3, likewise
 unfoldable pub too-large : Numbers → ℕ → List ℕ

@@ -70,6 +70,13 @@ fn put_no_lexeme(page: &mut [u8], at: usize, b: u8) -> usize
             b"This word mixes letters and digits. A name has only letters, a number only digits.",
         );
     }
+    if 128 <= b {
+        return lines::put(
+            page,
+            at,
+            b"O has only plain characters. Is this a quotation mark of another kind? A string stands between two of these: \"",
+        );
+    }
     lines::put(page, at, b"O does not use this character.")
 }
 

@@ -1,5 +1,5 @@
 -- `lines::put` meets its contract. The loop's invariant: what is left, stored from here on, is all of it stored from the start. Assumes nothing.
-use mathlib.Core.Path.{_≡_, refl}
+use mathlib.Core.Path.{_≡_}
 use Prim.Native.Nat.{_+_, _-_, _≤_}
 use native.Mathlib.Omega.{arith}
 use borrow.Author.Needs.{needs}

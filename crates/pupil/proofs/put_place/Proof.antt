@@ -2,11 +2,7 @@
 use Rattle.lines.proofs.Adds.{adds-then}
 use Rattle.lexeme.specs.Bytes.{bytes, bytes-from}
 use Rattle.lines.specs.Lines.{counted}
-use Prim.Native.Nat.{_≤_}
-use native.Mathlib.Omega.{arith}
 use denote.Ref.{now}
-use lib.ListN.{length}
-use Rattle.place.specs.Places.{spot}
 use Rattle.place.proofs.Lengths.{marked-fits}
 use Rattle.lines.proofs.Short.{Small}
 use Rattle.pupil.specs.Shows.{at-place}

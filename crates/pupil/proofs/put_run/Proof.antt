@@ -1,7 +1,5 @@
 -- `pupil::put_run` meets its contract. Assumes nothing.
 use Rattle.lines.proofs.Adds.{adds-then}
-use Rattle.lexeme.specs.Bytes.{bytes, bytes-from}
-use Rattle.lines.specs.Lines.{counted}
 use denote.Ref.{now}
 use Rattle.lines.proofs.Short.{Small}
 use Rattle.words.proofs.Short.{Fit}

@@ -2,7 +2,6 @@
 use mathlib.Core.Path.{sym, _∙_}
 use native.Mathlib.Omega.{arith}
 use Rattle.lexeme.specs.Bytes.{bytes, bytes-from}
-use Rattle.lines.specs.Lines.{counted}
 use borrow.Author.Needs.{needs}
 use Rattle.pupil.proofs.put_where.Statement.{statement}
 use Rattle.pupil.proofs.put_where.Tie as tie

@@ -1,8 +1,7 @@
 -- `words::put_no_lexeme` meets its contract. Assumes nothing.
 use mathlib.Core.Path.{sym, _∙_}
-use borrow.Author.Tests.{eq-eqb, ne-eqb}
+use borrow.Author.Tests.{eq-eqb, ne-eqb, le-leb, lt-leb}
 use Rattle.lexeme.specs.Bytes.{bytes, bytes-from}
-use Rattle.lines.specs.Lines.{counted}
 use Rattle.lexeme.specs.Coded.{such}
 use Rattle.words.specs.Words.{no-lexeme}
 use borrow.Author.Needs.{needs}
@@ -62,7 +61,20 @@ same-length-4 c = search needs
 
 returns-4 : tie.Need-returns-4
 unfolding no-lexeme such bytes bytes-from
-returns-4 c = rw (ne-eqb (c .before .before .before .before .before .before .before .before .before .before .args .b) 34 (c .before .before .before .before .before .before .before .before .if1 .left), ne-eqb (c .before .before .before .before .before .before .before .before .before .before .args .b) 58 (c .before .before .before .before .before .before .before .if2 .left), sym (c .before .before .before .before .before .before .is-such .ensures) ∙ c .before .before .before .before .before .if3 .left) (c .before .before .put4 .ensures)
+returns-4 c = rw (ne-eqb (c .before .before .before .before .before .before .before .before .before .before .before .args .b) 34 (c .before .before .before .before .before .before .before .before .before .if1 .left), ne-eqb (c .before .before .before .before .before .before .before .before .before .before .before .args .b) 58 (c .before .before .before .before .before .before .before .before .if2 .left), sym (c .before .before .before .before .before .before .before .is-such .ensures) ∙ c .before .before .before .before .before .before .if3 .left, le-leb 128 (c .before .before .before .before .before .before .before .before .before .before .before .args .b) (c .before .before .before .before .before .if4 .taken)) (c .before .before .put4 .ensures)
+
+slice-aggregate-put-5 : tie.Need-slice-aggregate-put-5
+slice-aggregate-put-5 c = search needs
+
+put-requires-5 : tie.Need-put-requires-5
+put-requires-5 c κs = search needs
+
+same-length-5 : tie.Need-same-length-5
+same-length-5 c = search needs
+
+returns-5 : tie.Need-returns-5
+unfolding no-lexeme such bytes bytes-from
+returns-5 c = rw (ne-eqb (c .before .before .before .before .before .before .before .before .before .before .before .args .b) 34 (c .before .before .before .before .before .before .before .before .before .if1 .left), ne-eqb (c .before .before .before .before .before .before .before .before .before .before .before .args .b) 58 (c .before .before .before .before .before .before .before .before .if2 .left), sym (c .before .before .before .before .before .before .before .is-such .ensures) ∙ c .before .before .before .before .before .before .if3 .left, lt-leb 128 (c .before .before .before .before .before .before .before .before .before .before .before .args .b) (c .before .before .before .before .before .if4 .left)) (c .before .before .put5 .ensures)
 
 pub put-no-lexeme-spec : {M : Type 1} → statement M
 put-no-lexeme-spec =
@@ -84,4 +96,8 @@ put-no-lexeme-spec =
     slice-aggregate-put-4
     put-requires-4
     same-length-4
-    returns-4)
+    returns-4
+    slice-aggregate-put-5
+    put-requires-5
+    same-length-5
+    returns-5)
