@@ -1,7 +1,7 @@
 -- The listing, from what `compile` promises. Assumes nothing.
 use mathlib.Core.Path.{_≡_, refl}
 use mathlib.Core.List.{List, [], _++_}
-use Prim.Native.Nat.{ℕ, _*_, _≤_}
+use Prim.Native.Nat.{ℕ, _+_, _*_, _≤_}
 use native.Mathlib.Omega.{arith}
 use lib.IntN.{ℤ}
 use lib.ListN.{length, take, length-append}
@@ -30,6 +30,6 @@ module _ (limits : Limits) (text : List ℕ) (n : ℕ) {r : Answer} {table : Lis
         let t = took limits text n s is in
         rw (t .is, t .count, t .cells, t .need, ← own-code t) (record { written = said-bytes a short; page = said-page a short; noted = refl; note = untouched []; status = refl })
 
--- the accepted line, and a line for each pair of a table of so many numbers at most
-pub listing-short : (i c m : ℕ) (lines : List ℕ) → Small i → Small c → Small m → length lines ≤ 266240 → length (accepted-line i c m ++ lines) ≤ 266336
-listing-short i c m lines h j k few = simp length-append (omega (arith, short-accepted i c m h j k))
+-- the accepted line is short
+pub listing-short : (i c m : ℕ) (lines : List ℕ) → Small i → Small c → Small m → length (accepted-line i c m ++ lines) ≤ 96 + length lines
+listing-short i c m lines h j k = simp length-append (omega (arith, short-accepted i c m h j k))

@@ -1,6 +1,6 @@
 -- `programs::listing` meets its contract. Assumes nothing.
-use mathlib.Core.Path.{_≡_, sym}
-use Prim.Native.Nat.{_≤_, _*_}
+use mathlib.Core.Path.{sym}
+use Prim.Native.Nat.{_≤_, _+_, _*_, _/_}
 use native.Mathlib.Omega.{arith}
 use denote.Ref.{now}
 use lib.ListN.{length, take}
@@ -63,11 +63,10 @@ returns-2 c =
     let hi : Small (c .before .before .before .before .before .before .a2 .given .0 .0) = search needs in
     let hc : Small (c .before .before .before .before .before .before .a2 .given .0 .1 .0) = search needs in
     let hm : Small (c .before .before .before .before .before .before .a2 .given .0 .1 .1 .0) = search needs in
-    let l : length (now (c .before .before .before .before .before .before .before .before .before .before .before .before .args .page)) ≡ 266336 = search needs in
-    let t : length (c .before .before .before .before .before .before .before .before .before .compile .last .1 .0) ≡ 8192 = search needs in
+    let l : 96 + length (c .before .before .before .before .before .before .before .before .before .compile .last .1 .0) / 2 * 65 ≤ length (now (c .before .before .before .before .before .before .before .before .before .before .before .before .args .page)) = search needs in
     let own = room _ _ _ (c .before .before .before .before .before .before .before .before .before .compile .ensures) (c .before .before .before .before .before .before .a2 .given .1) in
-    let few : length (table-lines (take (i * 2) (c .before .before .before .before .before .before .before .before .before .compile .last .1 .0))) ≤ 266240 = omega (arith, c .instructions .ensures .1, length-take-le (i * 2) (c .before .before .before .before .before .before .before .before .before .compile .last .1 .0) own, t, own) in
-    listed-accepted _ _ _ (c .before .before .before .before .before .before .before .before .before .compile .ensures) (c .before .before .before .before .before .before .a2 .given .1) (omega (arith, listing-short i c′ m (table-lines (take (i * 2) (c .before .before .before .before .before .before .before .before .before .compile .last .1 .0))) hi hc hm few, l)) (adds-then (c .before .before .before .accepted .ensures) (c .instructions .ensures .0))
+    let few : length (table-lines (take (i * 2) (c .before .before .before .before .before .before .before .before .before .compile .last .1 .0))) ≤ length (c .before .before .before .before .before .before .before .before .before .compile .last .1 .0) / 2 * 65 = omega (arith, c .instructions .ensures .1, length-take-le (i * 2) (c .before .before .before .before .before .before .before .before .before .compile .last .1 .0) own, own) in
+    listed-accepted _ _ _ (c .before .before .before .before .before .before .before .before .before .compile .ensures) (c .before .before .before .before .before .before .a2 .given .1) (omega (arith, listing-short i c′ m (table-lines (take (i * 2) (c .before .before .before .before .before .before .before .before .before .compile .last .1 .0))) hi hc hm, few, l)) (adds-then (c .before .before .before .accepted .ensures) (c .instructions .ensures .0))
 
 pub listing-spec : {M : Type 1} → statement M
 listing-spec =

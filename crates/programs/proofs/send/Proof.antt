@@ -1,5 +1,4 @@
 -- `programs::send` meets its contract. Assumes nothing.
-use mathlib.Core.Path.{_≡_}
 use Prim.Native.Nat.{_≤_}
 use native.Mathlib.Omega.{arith}
 use denote.Ref.{now}
@@ -30,8 +29,7 @@ put-requires c κs = search needs
 
 returns : tie.Need-returns
 returns c =
-    let r : length (now (c .before .before .before .before .before .before .before .before .before .before .args .room)) ≡ 4096 = search needs in
-    let l : length (now (c .before .before .before .before .before .before .before .before .before .before .args .page)) ≡ 4192 = search needs in
+    let l : length (now (c .before .before .before .before .before .before .before .before .before .before .args .room)) ≤ length (now (c .before .before .before .before .before .before .before .before .before .before .args .page)) = search needs in
     let few = output-short (c .before .before .before .before .before .before .before .before .c2 .given .0 .0 .length) (now (c .before .before .before .before .before .before .before .before .before .before .args .room)) in
     let all = rw (c .before .before .before .to-send .ensures, c .before .before .before .before .before .output .ensures) at (c .before .before .put .ensures) in
     sent-ran (now (c .before .before .before .before .before .before .before .before .before .before .args .room)) (c .before .before .before .before .before .before .before .before .c2 .given .1) (omega arith) all (c .if1 .taken)
@@ -48,8 +46,7 @@ returns-2 c =
 
 returns-3 : tie.Need-returns-3
 returns-3 c =
-    let r : length (now (c .before .before .before .before .before .before .before .before .before .before .before .before .args .room)) ≡ 4096 = search needs in
-    let l : length (now (c .before .before .before .before .before .before .before .before .before .before .before .before .args .page)) ≡ 4192 = search needs in
+    let l : length (now (c .before .before .before .before .before .before .before .before .before .before .before .before .args .room)) ≤ length (now (c .before .before .before .before .before .before .before .before .before .before .before .before .args .page)) = search needs in
     let few = output-short (c .before .before .before .before .before .before .before .before .before .before .c2 .given .0 .0 .length) (now (c .before .before .before .before .before .before .before .before .before .before .before .before .args .room)) in
     let all = rw (c .before .before .before .before .before .to-send .ensures, c .before .before .before .before .before .before .before .output .ensures) at (c .before .before .before .before .put .ensures) in
     let e : Small (c .before .before .before .before .before .before .before .before .before .before .c2 .given .0 .0 .ending) = search needs in

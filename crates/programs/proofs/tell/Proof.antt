@@ -4,8 +4,7 @@ use Rattle.lines.proofs.Short.{Small, short-refused}
 use Rattle.programs.proofs.Pages.{told-refused, told-ran, told-short}
 use native.Mathlib.Omega.{arith}
 use denote.Ref.{now}
-use mathlib.Core.Path.{_≡_}
-use Prim.Native.Nat.{_≤_}
+use Prim.Native.Nat.{_+_, _≤_}
 use lib.ListN.{length}
 use borrow.Author.Needs.{needs}
 use Rattle.programs.proofs.tell.Statement.{statement}
@@ -49,10 +48,9 @@ returns-2 : tie.Need-returns-2
 returns-2 c =
     let e : Small (c .before .before .before .before .before .before .before .before .before .before .before .c2 .given .0 .0 .ending) = search needs in
     let n : Small (c .before .before .before .before .before .before .before .before .before .before .before .c2 .given .0 .0 .steps) = search needs in
-    let r : length (now (c .before .before .before .before .before .before .before .before .before .before .before .before .before .args .room)) ≡ 4096 = search needs in
-    let l : length (now (c .before .before .before .before .before .before .before .before .before .before .before .before .before .args .page)) ≡ 4192 = search needs in
+    let l : length (now (c .before .before .before .before .before .before .before .before .before .before .before .before .before .args .room)) + 96 ≤ length (now (c .before .before .before .before .before .before .before .before .before .before .before .before .before .args .page)) = search needs in
     told-ran (now (c .before .before .before .before .before .before .before .before .before .before .before .before .before .args .room)) (c .before .before .before .before .before .before .before .before .before .before .before .c2 .given .1) (c .status-of .ensures)
-    (omega (arith, told-short (c .before .before .before .before .before .before .before .before .before .before .before .c2 .given .0 .0 .length) (c .before .before .before .before .before .before .before .before .before .before .before .c2 .given .0 .0 .ending) (c .before .before .before .before .before .before .before .before .before .before .before .c2 .given .0 .0 .steps) (now (c .before .before .before .before .before .before .before .before .before .before .before .before .before .args .room)) e n, r, l))
+    (omega (arith, told-short (c .before .before .before .before .before .before .before .before .before .before .before .c2 .given .0 .0 .length) (c .before .before .before .before .before .before .before .before .before .before .before .c2 .given .0 .0 .ending) (c .before .before .before .before .before .before .before .before .before .before .before .c2 .given .0 .0 .steps) (now (c .before .before .before .before .before .before .before .before .before .before .before .before .before .args .room)) e n, l))
     (adds-then (adds-then (rw (c .before .before .before .before .before .before .before .output .ensures) at (c .before .before .before .before .before .before .put .ensures)) (c .before .before .before .put2 .ensures)) (c .before .ending .ensures))
 
 pub tell-spec : {M : Type 1} → statement M

@@ -1,6 +1,5 @@
 -- `pupil::show` meets its contract. Assumes nothing.
-use mathlib.Core.Path.{_≡_}
-use Prim.Native.Nat.{_≤_}
+use Prim.Native.Nat.{_+_, _≤_}
 use native.Mathlib.Omega.{arith}
 use denote.Ref.{now}
 use lib.ListN.{length}
@@ -35,10 +34,9 @@ returns c =
 
 returns-2 : tie.Need-returns-2
 returns-2 c =
-    let r : length (now (c .before .before .before .before .before .before .before .before .before .args .room)) ≡ 4096 = search needs in
-    let l : length (now (c .before .before .before .before .before .before .before .before .before .args .page)) ≡ 4608 = search needs in
+    let l : length (now (c .before .before .before .before .before .before .before .before .before .args .room)) + 512 ≤ length (now (c .before .before .before .before .before .before .before .before .before .args .page)) = search needs in
     let x = rw (c .before .before .output .ensures) at (c .before .put-run .ensures) in
-    shown-ran _ (c .before .before .before .before .before .before .before .before .before .args .n) (now (c .before .before .before .before .before .before .before .before .before .args .text)) (now (c .before .before .before .before .before .before .before .before .before .args .room)) (c .before .before .before .before .before .before .c2 .given .1) (c .status-of .ensures) (omega (arith, x .1, output-short (c .before .before .before .before .before .before .c2 .given .0 .0 .length) (now (c .before .before .before .before .before .before .before .before .before .args .room)), r, l)) (x .0)
+    shown-ran _ (c .before .before .before .before .before .before .before .before .before .args .n) (now (c .before .before .before .before .before .before .before .before .before .args .text)) (now (c .before .before .before .before .before .before .before .before .before .args .room)) (c .before .before .before .before .before .before .c2 .given .1) (c .status-of .ensures) (omega (arith, x .1, output-short (c .before .before .before .before .before .before .c2 .given .0 .0 .length) (now (c .before .before .before .before .before .before .before .before .before .args .room)), l)) (x .0)
 
 pub show-spec : {M : Type 1} → statement M
 show-spec =
