@@ -4,8 +4,8 @@ use Prim.Native.Nat.{ℕ}
 use Prim.Native.String.{String}
 use lib.IntN.{ℤ, pos}
 use Rattle.limits.specs.Limits.{Limits}
-use Rattle.lexeme.specs.Answers.{Answer, given, refused}
-use Rattle.lexeme.specs.Bytes.{bytes}
+use Rattle.base.specs.Answers.{Answer, given, refused}
+use Rattle.base.specs.Bytes.{bytes}
 use Rattle.instruction.specs.Instructions.{numbers}
 use Rattle.machine.specs.Machine.{whole-run}
 use Rattle.meaning.specs.Layout.{program-need}

@@ -8,7 +8,7 @@ use native.Mathlib.Nat.{add-zero, le-refl}
 use native.Mathlib.Numerals.{add-one}
 use native.Mathlib.Omega.{arith}
 use types.Run.{OneOf}
-use Rattle.lexeme.specs.Answers.{given, refused}
+use Rattle.base.specs.Answers.{given, refused}
 use Rattle.lexeme.specs.Coded.{code-of}
 use Rattle.lexeme.specs.Lexemes.{Name, Lexeme, Fixed, Sizes, Placed, fixed, end, open-brace, close-brace, becomes, DO, ERROR, IF, INT, PRINTI, PRINTLNS, PRINTS, READ, THEN, WHILE}
 use Rattle.lexeme.specs.declared.Kind.the-variants as kind

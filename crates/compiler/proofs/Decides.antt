@@ -13,8 +13,8 @@ use lib.ListN.{length, replicate, length-replicate}
 use types.Run.{OneOf, miss}
 use denote.Enum.Declared.{tagOf}
 use Rattle.limits.specs.Limits.{Limits}
-use Rattle.lexeme.specs.Answers as A
-use Rattle.lexeme.specs.Answers.{given, refused, pass}
+use Rattle.base.specs.Answers as A
+use Rattle.base.specs.Answers.{given, refused, pass}
 use Rattle.lexeme.specs.Lexemes.{Name, Placed, Sizes, lexemes}
 use Rattle.lexeme.specs.Coded.{scanned}
 use Rattle.lexeme.specs.declared.Found.{Found}

@@ -12,8 +12,8 @@ use lib.IntN.{ℤ, pos}
 use lib.ListN.{length, getD, take, drop, set, replicate, length-set, length-replicate, getD-replicate, List·getD-append}
 use lib.Seq.{sets, sets-eq, getD-set-same, getD-set-other, getD-append-add, length-sets, length-take-le}
 use borrow.Author.Tests.{ltb-true}
-use Rattle.lexeme.specs.Answers.{Answer, given, refused, pass}
-use Rattle.lexeme.specs.Bytes.{same}
+use Rattle.base.specs.Answers.{Answer, given, refused, pass}
+use Rattle.base.specs.Bytes.{same}
 use Rattle.lexeme.specs.Coded.{sign-code, mul-code, rel-code}
 use Rattle.lexeme.specs.Lexemes as L
 use Rattle.lexeme.specs.Lexemes.{Name, Quoted, Sign, Mul, Rel, Sizes}

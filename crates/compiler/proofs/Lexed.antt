@@ -6,7 +6,7 @@ use native.Mathlib.Omega.{arith}
 use types.Run.{OneOf, miss}
 use denote.Enum.Declared.{tagOf}
 use lib.ListN.{length}
-use Rattle.lexeme.specs.Answers.{Answer, given, refused, pass}
+use Rattle.base.specs.Answers.{Answer, given, refused, pass}
 use Rattle.lexeme.specs.Lexemes.{Placed, Next, lexeme, nothing, fixed, end, Sizes, next}
 use Rattle.lexeme.specs.Coded.{kind-of, code-of, coded}
 use Rattle.lexeme.specs.declared.Lexeme as code

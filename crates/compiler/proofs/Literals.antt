@@ -7,9 +7,9 @@ use native.Mathlib.Omega.{arith}
 use borrow.Author.Tests.{ltb-false}
 use lib.Dec.{eqb, leb, ltb}
 use lib.ListN.{length, drop}
-use Rattle.lexeme.specs.Answers.{Answer, given, refused}
-use Rattle.lexeme.specs.Bytes.{separator, letter, digit, letter-or-digit, no-quote, run, all, same}
-use Rattle.lexeme.specs.Lexemes.{Lexeme, lit, name, class, string, sign, mul, rel, fixed, end, Placed, Next, lexeme, nothing, found, Keyword, keywords, capital-word, starts-small, value, Sizes, letter-word, digit-word, word, string-at, Symbol, symbols, symbol, colon, here, next}
+use Rattle.base.specs.Answers.{Answer, given, refused}
+use Rattle.base.specs.Bytes.{separator, letter, digit, letter-or-digit, no-quote, run, all, same, value}
+use Rattle.lexeme.specs.Lexemes.{Lexeme, lit, name, class, string, sign, mul, rel, fixed, end, Placed, Next, lexeme, nothing, found, Keyword, keywords, capital-word, starts-small, Sizes, letter-word, digit-word, word, string-at, Symbol, symbols, symbol, colon, here, next}
 use Rattle.lexeme.specs.declared.Lexeme as code
 use Rattle.lexeme.specs.declared.Kind.the-variants as kind
 use Rattle.lexeme.proofs.Symbols.{Each, nil, _also_}

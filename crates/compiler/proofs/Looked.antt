@@ -8,9 +8,9 @@ use native.Mathlib.Omega.{arith}
 use borrow.Author.Tests.{ne-eqb}
 use lib.Dec.{T, eqb, leb, ltb}
 use lib.ListN.{length, drop}
-use Rattle.lexeme.specs.Answers.{Answer, given, refused, pass}
-use Rattle.lexeme.specs.Bytes.{separator, letter, digit, letter-or-digit, no-quote, run, all, same}
-use Rattle.lexeme.specs.Lexemes.{Name, Lexeme, Quoted, Sign, plus, minus, Mul, times, over, Rel, less, greater, equal, Fixed, end, lit, name, class, string, sign, mul, rel, fixed, Placed, Next, lexeme, nothing, found, Keyword, keywords, capital-word, starts-small, value, Sizes, letter-word, digit-word, word, string-at, Symbol, symbols, symbol, colon, here, next, lexemes-from}
+use Rattle.base.specs.Answers.{Answer, given, refused, pass}
+use Rattle.base.specs.Bytes.{separator, letter, digit, letter-or-digit, no-quote, run, all, same, value}
+use Rattle.lexeme.specs.Lexemes.{Name, Lexeme, Quoted, Sign, plus, minus, Mul, times, over, Rel, less, greater, equal, Fixed, end, lit, name, class, string, sign, mul, rel, fixed, Placed, Next, lexeme, nothing, found, Keyword, keywords, capital-word, starts-small, Sizes, letter-word, digit-word, word, string-at, Symbol, symbols, symbol, colon, here, next, lexemes-from}
 use Rattle.lexeme.specs.Coded.{kind-of, sign-code, mul-code, rel-code, code-of}
 use Rattle.lexeme.specs.declared.Kind.{Kind}
 use Rattle.lexeme.specs.declared.Kind.the-variants as kind

@@ -9,7 +9,7 @@ use native.Mathlib.Omega.{arith}
 use borrow.Author.Tests.{lt-ltb, le-ltb}
 use lib.Dec.{ltb}
 use lib.ListN.{length}
-use Rattle.lexeme.specs.Answers.{Answer, given, refused}
+use Rattle.base.specs.Answers.{Answer, given, refused}
 use Rattle.lexeme.specs.Coded.{sign-code, mul-code, rel-code, code-of}
 use Rattle.lexeme.specs.Lexemes.{Name, Lexeme, Sign, Mul, Rel, end, Placed, Sizes}
 use Rattle.lexeme.specs.declared.Lexeme as code

@@ -7,9 +7,9 @@ use Prim.Native.Nat.{ℕ, zero, suc, _+_}
 use native.Mathlib.Omega.{arith}
 use lib.Dec.{ltb, leb, eqb}
 use lib.ListN.{length}
-use Rattle.lexeme.specs.Answers.{Answer, given, refused, pass}
-use Rattle.lexeme.specs.Bytes.{letter, digit, letter-or-digit, no-quote, run, all}
-use Rattle.lexeme.specs.Lexemes.{fixed, end, Placed, Next, lexeme, nothing, found, value, Sizes, letter-word, digit-word, word, string-at, Symbol, symbols, symbol, colon, here, next, lexemes-from, lexemes}
+use Rattle.base.specs.Answers.{Answer, given, refused, pass}
+use Rattle.base.specs.Bytes.{letter, digit, letter-or-digit, no-quote, run, all, value}
+use Rattle.lexeme.specs.Lexemes.{fixed, end, Placed, Next, lexeme, nothing, found, Sizes, letter-word, digit-word, word, string-at, Symbol, symbols, symbol, colon, here, next, lexemes-from, lexemes}
 
 -- ---- any answer
 

@@ -5,9 +5,9 @@ use mathlib.Core.List.{List, [], _∷_}
 use mathlib.Core.Bool.{Bool, true, false, cond}
 use lib.Dec.{eqb, leb, ltb}
 use lib.ListN.{length, drop}
-use Rattle.lexeme.specs.Answers.{Answer, given, refused}
-use Rattle.lexeme.specs.Bytes.{separator, letter, digit, letter-or-digit, no-quote, run, all}
-use Rattle.lexeme.specs.Lexemes.{Next, Sizes, value, letter-word, digit-word, word, string-at, here, next}
+use Rattle.base.specs.Answers.{Answer, given, refused}
+use Rattle.base.specs.Bytes.{separator, letter, digit, letter-or-digit, no-quote, run, all, value}
+use Rattle.lexeme.specs.Lexemes.{Next, Sizes, letter-word, digit-word, word, string-at, here, next}
 
 -- equal, unless one is refused
 data Agree : Answer Next → Answer Next → Type 0 where

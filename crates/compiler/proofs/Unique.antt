@@ -9,9 +9,8 @@ use lib.Dec.{ltb}
 use lib.IntN.{ℤ}
 use lib.ListN.{length}
 use Rattle.limits.specs.Limits.{Limits}
-use Rattle.lexeme.specs.Answers as A
-use Rattle.lexeme.specs.Answers.{given, refused, pass}
-use Rattle.lexeme.specs.Lexemes.{lexemes}
+use Rattle.base.specs.Answers as A
+use Rattle.base.specs.Answers.{given, refused, pass}
 use Rattle.names.specs.Names.{nothing-declared, resolved}
 use Rattle.meaning.specs.Layout.{program-need}
 use Rattle.meaning.proofs.Laid.{laid-program}

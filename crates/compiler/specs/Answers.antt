@@ -3,8 +3,8 @@ use mathlib.Core.Path.{_≡_}
 use mathlib.Core.List.{List}
 use Prim.Native.Nat.{ℕ}
 use lib.IntN.{ℤ}
-use Rattle.lexeme.specs.Answers as A
-use Rattle.lexeme.specs.Answers.{given}
+use Rattle.base.specs.Answers as A
+use Rattle.base.specs.Answers.{given}
 use Rattle.lexeme.specs.Lexemes.{Name, Placed, Sizes, lexemes}
 use Rattle.sentence.specs.Sentences.{Sen, command}
 use Rattle.sentence.specs.Reader.{read}

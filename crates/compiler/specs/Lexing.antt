@@ -3,7 +3,7 @@ use mathlib.Core.Path.{_≡_}
 use mathlib.Core.List.{List, _∷_}
 use Prim.Native.Nat.{ℕ, suc, _≤_, _<_}
 use lib.ListN.{length}
-use Rattle.lexeme.specs.Answers.{given}
+use Rattle.base.specs.Answers.{given}
 use Rattle.lexeme.specs.Lexemes.{Lexeme, Placed, Sizes, fixed, end, lexemes-from}
 use Rattle.lexeme.specs.Coded.{kind-of}
 use Rattle.lexeme.specs.declared.Lexeme as code

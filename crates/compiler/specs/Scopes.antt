@@ -4,8 +4,8 @@ use mathlib.Core.Bool.{cond}
 use Prim.Native.Nat.{ℕ, zero, suc}
 use lib.Dec.{eqb}
 use lib.ListN.{getD, drop}
-use Rattle.lexeme.specs.Answers.{Answer, given, refused}
-use Rattle.lexeme.specs.Bytes.{letter-or-digit, run}
+use Rattle.base.specs.Answers.{Answer, given, refused}
+use Rattle.base.specs.Bytes.{letter-or-digit, run}
 use Rattle.lexeme.specs.Lexemes.{Name}
 use Rattle.names.specs.Names.{Declaration, Scope}
 use Rattle.compiler.specs.declared.walk.Walk.{Walk}

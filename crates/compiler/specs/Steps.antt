@@ -6,7 +6,7 @@ use Prim.Native.Char.{code}
 use lib.Dec.{ltb, eqb}
 use lib.IntN.{ℤ, pos}
 use lib.ListN.{length, set}
-use Rattle.lexeme.specs.Bytes.{same}
+use Rattle.base.specs.Bytes.{same}
 use Rattle.lexeme.specs.Lexemes as L
 use Rattle.lexeme.specs.Lexemes.{DO, THEN}
 use Rattle.lexeme.specs.declared.Kind.{Kind}

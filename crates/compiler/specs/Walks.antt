@@ -6,7 +6,7 @@ use Prim.Native.Nat.{ℕ, suc, _+_, _*_, _≤_, _<_}
 use lib.Dec.{ltb, eqb}
 use lib.IntN.{ℤ}
 use lib.ListN.{length, getD}
-use Rattle.lexeme.specs.Answers.{Answer, given, refused, pass}
+use Rattle.base.specs.Answers.{Answer, given, refused, pass}
 use Rattle.lexeme.specs.Lexemes.{Name, Lexeme, Placed, Sizes}
 use Rattle.sentence.specs.Sentences.{Kind, Sen, factor, term, expression, condition, command, commands}
 use Rattle.sentence.specs.Reader.{Around, depth, State, in-first, in-bracket, in-left, in-print, in-while, in-when, in-block, want-factor, want-expression, want-condition, want-command, want-line, want-string, want-declared, want-read, want-becomes, step, verdict, goes-on, is-whole, begins-none, whole, read-from, read, got-factor, whole-term, after-expression, whole-expression, after-condition, after-command}

@@ -57,17 +57,6 @@ fn program(text: &[u8], names: &mut [usize], table: &mut [i32], code: usize) -> 
     Read::Done(x)
 }
 
-// Every number becomes 0.
-fn clear(table: &mut [i32])
-    ensures { λ _. ⌜ now (table .exit) ≡ replicate (length (now (table .entry))) (pos 0) ⌝ }
-{
-    let mut i = 0;
-    while i < table.len() {
-        table[i] = 0;
-        i += 1;
-    }
-}
-
 // One `PushInt 0` for each cell.
 fn open(table: &mut [i32], cells: usize)
     ensures { λ _. ⌜ now (table .exit) ≡ opening cells (now (table .entry)) ⌝ }
@@ -124,7 +113,7 @@ pub fn compile(text: &[u8], table: &mut [i32]) -> Answer
     requires { λ sizes. do ⌜ record { word = (← ⟦Limits::WORD⟧); string = (← ⟦Limits::STRING⟧); literal = (← ⟦Limits::LITERAL⟧) } ≡ sizes ⌝ }
     ensures { λ sizes r. do ⌜ Says (compiled (record { text = (← ⟦Limits::TEXT⟧ .entry); sizes = sizes; nesting = (← ⟦Limits::NESTING⟧ .entry); declarations = (← ⟦Limits::DECLARATIONS⟧ .entry); instructions = (← ⟦Limits::INSTRUCTIONS⟧ .entry) }) (now (text .entry)) (length (now (table .entry)))) (length (now (table .entry))) r (now (table .exit)) ⌝ }
 {
-    clear(table);
+    base::clear(table);
     if lexer::too_long(text) {
         return Answer::Refused(1, 0);
     }

@@ -23,7 +23,7 @@ fn word_from(text: &[u8], place: usize) -> &[u8]
     if text.len() < place {
         return &text[0..0];
     }
-    let end = lexeme::run_end(text, place, lexeme::Such::LetterOrDigit);
+    let end = base::run_end(text, place, base::Such::LetterOrDigit);
     &text[place..end]
 }
 
@@ -34,7 +34,7 @@ fn is_named(text: &[u8], entry: usize, place: usize) -> bool
     if entry == 0 {
         return false;
     }
-    lexeme::is_same(word_from(text, entry - 1), word_from(text, place))
+    base::is_same(word_from(text, entry - 1), word_from(text, place))
 }
 
 // The latest visible declaration of the name at a place. An entry is one more than the declaration's place, or 0 where its block has ended.

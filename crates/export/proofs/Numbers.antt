@@ -3,7 +3,7 @@ use mathlib.Core.Path.{_≡_, ap}
 use mathlib.Core.List.{List, [], _∷_}
 use Prim.Native.Nat.{ℕ}
 use lib.IntN.{ℤ}
-use Rattle.lexeme.specs.Answers as A
+use Rattle.base.specs.Answers as A
 use Rattle.machine.specs.Machine.{Report}
 use Rattle.machine.specs.Promise.{Ran}
 use Rattle.machine.specs.declared.Report as Code

@@ -4,7 +4,7 @@ use mathlib.Core.List.{List, [], _∷_}
 use Prim.Native.Nat.{ℕ}
 use lib.IntN.{ℤ}
 use lib.ListN.{length}
-use Rattle.lexeme.specs.Answers.{Answer}
+use Rattle.base.specs.Answers.{Answer}
 use Rattle.machine.specs.Machine.{Report, room-after, stack-after}
 use Rattle.compiler.specs.Compiled as C
 use Rattle.compiler.specs.Compiled.{report, table-after}

@@ -7,8 +7,8 @@ use lib.IntN.{ℤ}
 use lib.ListN.{length, take, length-append}
 use lib.Seq.{take-at}
 use Rattle.limits.specs.Limits.{Limits}
-use Rattle.lexeme.specs.Answers as A
-use Rattle.lexeme.specs.Answers.{given, refused}
+use Rattle.base.specs.Answers as A
+use Rattle.base.specs.Answers.{given, refused}
 use Rattle.instruction.specs.Instructions.{numbers}
 use Rattle.machine.specs.Machine.{whole-run}
 use Rattle.machine.specs.Promise.{lends, Ran}

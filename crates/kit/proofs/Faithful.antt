@@ -9,7 +9,7 @@ use lib.Dec.{ltb}
 use lib.IntN.{ℤ}
 use lib.ListN.{length}
 use Rattle.limits.specs.Limits.{Limits}
-use Rattle.lexeme.specs.Answers.{Answer, given, refused, pass}
+use Rattle.base.specs.Answers.{Answer, given, refused, pass}
 use Rattle.sentence.specs.Grammar.{whats, Whole}
 use Rattle.sentence.specs.Reader.{read}
 use Rattle.sentence.proofs.Refusals.{accepts}

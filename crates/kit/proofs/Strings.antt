@@ -8,9 +8,9 @@ use lib.Dec.{leb, ltb, eqb}
 use lib.ListN.{length, drop}
 use lib.Seq.{drop-drop}
 use borrow.Author.Tests.{leb-false, lt-ltb}
-use Rattle.lexeme.specs.Answers.{Answer, given, refused, pass}
-use Rattle.lexeme.specs.Bytes.{letter-or-digit, no-quote, separator, run, all, letter, digit, same}
-use Rattle.lexeme.specs.Lexemes.{Name, Lexeme, lit, name, class, string, sign, mul, rel, fixed, end, Placed, Next, lexeme, nothing, found, Keyword, keywords, capital-word, starts-small, value, Sizes, letter-word, digit-word, word, string-at, Symbol, symbols, symbol, colon, here, next, lexemes-from, lexemes}
+use Rattle.base.specs.Answers.{Answer, given, refused, pass}
+use Rattle.base.specs.Bytes.{letter-or-digit, no-quote, separator, run, all, letter, digit, same, value}
+use Rattle.lexeme.specs.Lexemes.{Name, Lexeme, lit, name, class, string, sign, mul, rel, fixed, end, Placed, Next, lexeme, nothing, found, Keyword, keywords, capital-word, starts-small, Sizes, letter-word, digit-word, word, string-at, Symbol, symbols, symbol, colon, here, next, lexemes-from, lexemes}
 use Rattle.sentence.specs.Sentences.{Kind, Sen, command, spell, program, literal, variable, bracket, first, multiply, unsigned, signed, add, negated, compare, print, print-line, print-string, declare, input, assign, error, while, when, block, single, then}
 use Rattle.sentence.specs.Grammar.{Whole, whats}
 use Rattle.sentence.specs.Parts.{Each}

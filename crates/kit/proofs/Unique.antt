@@ -4,7 +4,7 @@ use mathlib.Core.List.{List}
 use Prim.Native.Nat.{ℕ}
 use native.Mathlib.Omega.{arith}
 use lib.IntN.{ℤ}
-use Rattle.lexeme.specs.Answers.{Answer}
+use Rattle.base.specs.Answers.{Answer}
 use Rattle.machine.proofs.Runs.{only-one}
 use Rattle.compiler.specs.Compiled.{Accepted}
 use Rattle.kit.specs.Kit.{Comes-to, refused-so, stack-too-short, ran, Says}

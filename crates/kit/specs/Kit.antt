@@ -6,7 +6,7 @@ use Prim.Native.Nat.{ℕ, _≤_, _<_}
 use lib.Dec.{eqb, leb}
 use lib.IntN.{ℤ}
 use lib.ListN.{length, take}
-use Rattle.lexeme.specs.Answers.{Answer, given, refused}
+use Rattle.base.specs.Answers.{Answer, given, refused}
 use Rattle.instruction.specs.Endings.{normal}
 use Rattle.machine.specs.Machine as M
 use Rattle.machine.specs.Promise as Promise

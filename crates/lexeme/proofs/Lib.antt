@@ -1,6 +1,5 @@
 pub mod Decoded
 pub mod Places
-pub mod Runs
 pub mod Scans
 pub mod Symbols
 pub mod Words

@@ -1,5 +1,5 @@
 -- Laws of `here` and `next`: by what stands at a place, and that a lexeme stands within the text, at or after the place. Assumes nothing.
-use mathlib.Core.Path.{_≡_, refl, sym, subst, ap}
+use mathlib.Core.Path.{_≡_, refl, subst, ap}
 use mathlib.Core.List.{List, [], _∷_}
 use mathlib.Core.Bool.{Bool, true, false, cond}
 use Prim.Native.Nat.{ℕ, _+_, _-_, _≤_, _<_}
@@ -9,14 +9,14 @@ use borrow.Author.Tests.{leb-false}
 use lib.Dec.{eqb, leb, ltb}
 use lib.ListN.{length, getD, take, drop, drop-of-length-le, length-drop}
 use lib.Seq.{drop-cons}
-use Rattle.lexeme.specs.Answers.{Answer, given, refused}
-use Rattle.lexeme.specs.Bytes.{separator, letter, digit, letter-or-digit, no-quote, run, all, same}
-use Rattle.lexeme.specs.Lexemes.{Lexeme, name, class, string, fixed, becomes, Placed, Next, lexeme, nothing, found, Keyword, keywords, capital-word, starts-small, value, Sizes, letter-word, digit-word, word, string-at, Symbol, symbols, symbol, colon, here, next}
+use Rattle.base.specs.Answers.{Answer, given, refused}
+use Rattle.base.specs.Bytes.{separator, letter, digit, letter-or-digit, no-quote, run, all, same, value}
+use Rattle.lexeme.specs.Lexemes.{Lexeme, name, class, string, fixed, becomes, Placed, Next, lexeme, nothing, found, Keyword, keywords, capital-word, starts-small, Sizes, letter-word, digit-word, word, string-at, Symbol, symbols, symbol, colon, here, next}
 use Rattle.lexeme.specs.Coded.{kind-of, coded, sign-code, mul-code, rel-code, code-of}
 use Rattle.lexeme.specs.declared.Lexeme as coded-lexeme
 use Rattle.lexeme.specs.declared.Found.the-variants.{Is, End, Refused}
 use Rattle.lexeme.proofs.Decoded.{what-of, placed-of, sign-of, mul-of, rel-of, fixed-of, fixed-in, fixeds, fixed-back}
-use Rattle.lexeme.proofs.Runs.{run-take, run-yes, run-fits}
+use Rattle.base.proofs.Runs.{run-take, run-yes, run-fits}
 use Rattle.lexeme.proofs.Symbols.{Each, nil, _also_}
 
 module _ (most : Sizes) (text : List ℕ) (p : ℕ) where

@@ -6,7 +6,7 @@ use native.Mathlib.Omega.{arith}
 use lib.ListN.{length}
 use types.Run.{OneOf, miss}
 use denote.Enum.Declared.{tagOf}
-use Rattle.lexeme.specs.Answers.{Answer, given, refused, pass}
+use Rattle.base.specs.Answers.{Answer, given, refused, pass}
 use Rattle.lexeme.specs.Lexemes.{fixed, end, Placed, Next, lexeme, nothing, Sizes, next, lexemes-from, lexemes}
 use Rattle.lexeme.specs.Coded.{coded, scanned}
 use Rattle.lexeme.specs.declared.Lexeme.{Lexeme}

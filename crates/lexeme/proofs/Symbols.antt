@@ -8,7 +8,7 @@ use native.Mathlib.Nat.{eq-or-lt-of-le}
 use native.Mathlib.Omega.{arith}
 use borrow.Author.Tests.{ne-eqb}
 use types.Run.{OneOf}
-use Rattle.lexeme.specs.Answers.{refused}
+use Rattle.base.specs.Answers.{refused}
 use Rattle.lexeme.specs.Lexemes.{Symbol, symbol, found}
 
 -- what holds of each element of a list

@@ -1,27 +1,15 @@
 -- How the code writes lexemes: its enums and numbers for those of the definitions.
 use mathlib.Core.List.{List}
-use mathlib.Core.Bool.{Bool}
 use Prim.Native.Nat.{ℕ}
 use Prim.Native.Char.{code}
-use Rattle.lexeme.specs.Answers.{Answer, given, refused}
-use Rattle.lexeme.specs.Bytes.{separator, letter, letter-or-digit, digit, no-quote}
+use Rattle.base.specs.Answers.{Answer, given, refused}
 use Rattle.lexeme.specs.Lexemes.{Sign, plus, minus, Mul, times, over, Rel, less, greater, equal, Fixed, open-round, close-round, open-square, close-square, open-brace, close-brace, comma, dot, becomes, CALL, CLASS, DO, ERROR, FIELDS, IF, INIT, INT, METHOD, NOT, OBJ, PRINTI, PRINTLNS, PRINTS, PROCEDURE, READ, RETURNS, SUBCLASSOF, THEN, USING, WHILE, end, lit, name, class, string, sign, mul, rel, fixed, Placed, Next, lexeme, nothing}
 use Rattle.lexeme.specs.Lexemes as lexemes
-use Rattle.lexeme.specs.declared.Such.{Such}
-use Rattle.lexeme.specs.declared.Such.the-variants.{Separator, Letter, LetterOrDigit, Digit, NoQuote}
 use Rattle.lexeme.specs.declared.Kind.{Kind}
 use Rattle.lexeme.specs.declared.Kind.the-variants as kind
 use Rattle.lexeme.specs.declared.Lexeme.{Lexeme}
 use Rattle.lexeme.specs.declared.Found.{Found}
 use Rattle.lexeme.specs.declared.Found.the-variants.{Is, End, Refused}
-
--- the bytes that a kind of run is made of
-unfoldable pub such : Such → ℕ → Bool
-such Separator = separator
-such Letter = letter
-such LetterOrDigit = letter-or-digit
-such Digit = digit
-such NoQuote = no-quote
 
 -- a symbol is its byte
 unfoldable pub sign-code : Sign → ℕ

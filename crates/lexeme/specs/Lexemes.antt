@@ -1,13 +1,13 @@
 -- Document 01, "Lexemes", and refusals 2 and 3 of "Refused texts".
 use mathlib.Core.List.{List, [], _∷_}
 use mathlib.Core.Bool.{Bool, true, false, cond}
-use Prim.Native.Nat.{ℕ, zero, suc, _+_, _-_, _*_}
+use Prim.Native.Nat.{ℕ, zero, suc, _+_}
 use Prim.Native.Char.{code}
 use lib.Dec.{leb, ltb, eqb}
 use lib.ListN.{length, drop}
 pub use Rattle.limits.specs.Limits.{Sizes}
-use Rattle.lexeme.specs.Answers.{Answer, given, refused, pass}
-use Rattle.lexeme.specs.Bytes.{bytes, separator, small, letter, digit, letter-or-digit, no-quote, run, all, same}
+use Rattle.base.specs.Answers.{Answer, given, refused, pass}
+use Rattle.base.specs.Bytes.{bytes, separator, small, letter, digit, letter-or-digit, no-quote, run, all, same, value}
 
 -- ---- what a lexeme is
 
@@ -99,11 +99,6 @@ capital-word (k ∷ ks) p w = elim (same w (k .spelled)) [ true ↦ fixed (k .me
 unfoldable pub starts-small : List ℕ → Bool
 starts-small [] = false
 starts-small (b ∷ w) = small b
-
--- the value of a digit word, whose leading digits are worth n
-unfoldable pub value : ℕ → List ℕ → ℕ
-value n [] = n
-value n (b ∷ w) = value (n * 10 + (b - 48)) w
 
 -- a letter word at the place p, with the most letters that it may have
 unfoldable pub letter-word : ℕ → ℕ → List ℕ → Answer Next

@@ -1,4 +1,2 @@
-pub mod Answers
-pub mod Bytes
 pub mod Coded
 pub mod Lexemes

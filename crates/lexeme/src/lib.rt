@@ -1,21 +1,12 @@
-// Lexemes: their bytes, their kinds, and the keywords.
+// Lexemes: their kinds, and the keywords.
 ghost use mathlib.Core.Path.{_≡_};
-ghost use Prim.Native.Nat.{ℕ, _+_};
-ghost use lib.ListN.{length, drop};
-ghost use Rattle.lexeme.specs.Bytes.{separator, letter, digit, run, all, same};
+ghost use Prim.Native.Nat.{ℕ};
+ghost use lib.ListN.{drop};
 ghost use Rattle.lexeme.specs.Lexemes.{keywords, capital-word, starts-small};
-ghost use Rattle.lexeme.specs.Coded.{such, kind-of};
+ghost use Rattle.lexeme.specs.Coded.{kind-of};
+use base::is_same;
 
 pub mod fixed;
-
-// The bytes that a run is made of.
-pub enum Such {
-    Separator,
-    Letter,
-    LetterOrDigit,
-    Digit,
-    NoQuote,
-}
 
 // What a lexeme is. A symbol is its byte, `:=` that of its colon, and a keyword its number in alphabetical order, from 1: specs/Coded.antt has the table.
 pub enum Kind {
@@ -41,82 +32,6 @@ pub enum Found {
     Is(Lexeme),
     End,
     Refused(u8, usize),
-}
-
-pub fn is_separator(b: u8) -> bool
-    ensures { λ r. ⌜ r ≡ separator b ⌝ }
-{
-    match b {
-        b' ' | 9 | 10 | 13 => true,
-        _ => false,
-    }
-}
-
-fn is_letter(b: u8) -> bool
-    ensures { λ r. ⌜ r ≡ letter b ⌝ }
-{
-    match b {
-        b'a'..=b'z' | b'A'..=b'Z' => true,
-        _ => false,
-    }
-}
-
-pub fn is_digit(b: u8) -> bool
-    ensures { λ r. ⌜ r ≡ digit b ⌝ }
-{
-    match b {
-        b'0'..=b'9' => true,
-        _ => false,
-    }
-}
-
-pub fn is_such(kind: Such, b: u8) -> bool
-    ensures { λ r. ⌜ r ≡ such kind b ⌝ }
-{
-    match kind {
-        Such::Separator => is_separator(b),
-        Such::Letter => is_letter(b),
-        Such::LetterOrDigit => is_letter(b) || is_digit(b),
-        Such::Digit => is_digit(b),
-        Such::NoQuote => b != b'"',
-    }
-}
-
-// The end of the longest run of such bytes from a place on; the place itself where it is past the text.
-pub fn run_end(text: &[u8], at: usize, kind: Such) -> usize
-    ensures { λ r. ⌜ r ≡ at + length (run (such kind) (drop at (now (text .entry)))) ⌝ }
-{
-    let mut i = at;
-    while i < text.len() {
-        if !is_such(kind, text[i]) {
-            return i;
-        }
-        i += 1;
-    }
-    i
-}
-
-pub fn is_all(word: &[u8], kind: Such) -> bool
-    ensures { λ r. ⌜ r ≡ all (such kind) (now (word .entry)) ⌝ }
-{
-    run_end(word, 0, kind) == word.len()
-}
-
-// Whether two words are equal byte for byte.
-pub fn is_same(a: &[u8], b: &[u8]) -> bool
-    ensures { λ r. ⌜ r ≡ same (now (a .entry)) (now (b .entry)) ⌝ }
-{
-    if a.len() != b.len() {
-        return false;
-    }
-    let mut i = 0;
-    while i < a.len() {
-        if a[i] != b[i] {
-            return false;
-        }
-        i += 1;
-    }
-    true
 }
 
 // A word that starts with a capital: a keyword, or a class name.

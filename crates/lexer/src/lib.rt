@@ -5,10 +5,10 @@ ghost use lib.Dec.{ltb};
 ghost use lib.ListN.{length, drop};
 ghost use Rattle.lexeme.specs.Lexemes.{letter-word, digit-word, word, string-at, symbols, symbol, colon, next, lexemes};
 ghost use Rattle.lexeme.specs.Coded.{coded, scanned};
+use base::Such;
 use lexeme::Found;
 use lexeme::Kind;
 use lexeme::Lexeme;
-use lexeme::Such;
 use limits::Limits;
 
 // Whether a text is too long: refusal 1.
@@ -77,10 +77,10 @@ fn word_at(whole: &[u8], p: usize, e: usize) -> Found
     requires { ⌜ e ≡ p + length (now whole) ⌝ }
     ensures { λ r. do ⌜ r ≡ coded (word (record { word = (← ⟦Limits::WORD⟧ .entry); string = (← ⟦Limits::STRING⟧ .entry); literal = (← ⟦Limits::LITERAL⟧ .entry) }) p (now (whole .entry))) ⌝ }
 {
-    if lexeme::is_all(whole, Such::Letter) {
+    if base::is_all(whole, Such::Letter) {
         return letter_word(whole, p, e);
     }
-    if lexeme::is_all(whole, Such::Digit) {
+    if base::is_all(whole, Such::Digit) {
         return digit_word(whole, p, e);
     }
     Found::Refused(2, p)
@@ -91,7 +91,7 @@ fn string_at(text: &[u8], p: usize) -> Found
     requires { ⌜ p < length (now text) ⌝ }
     ensures { λ r. do ⌜ r ≡ coded (string-at (← ⟦Limits::STRING⟧ .entry) p (drop (p + 1) (now (text .entry)))) ⌝ }
 {
-    let e = lexeme::run_end(text, p + 1, Such::NoQuote);
+    let e = base::run_end(text, p + 1, Such::NoQuote);
     if text.len() <= e {
         return Found::Refused(2, p);
     }
@@ -157,13 +157,13 @@ fn symbol_at(b: u8, p: usize, q: usize) -> Found
 pub fn next(text: &[u8], at: usize) -> Found
     ensures { λ r. do ⌜ r ≡ coded (next (record { word = (← ⟦Limits::WORD⟧ .entry); string = (← ⟦Limits::STRING⟧ .entry); literal = (← ⟦Limits::LITERAL⟧ .entry) }) (now (text .entry)) at) ⌝ }
 {
-    let p = lexeme::run_end(text, at, Such::Separator);
+    let p = base::run_end(text, at, Such::Separator);
     if text.len() <= p {
         return Found::End;
     }
     let b = text[p];
-    if lexeme::is_such(Such::LetterOrDigit, b) {
-        let e = lexeme::run_end(text, p, Such::LetterOrDigit);
+    if base::is_such(Such::LetterOrDigit, b) {
+        let e = base::run_end(text, p, Such::LetterOrDigit);
         return word_at(&text[p..e], p, e);
     }
     match b {

@@ -6,7 +6,7 @@ use lib.IntN.{ℤ, pos, negsuc}
 use lib.ListN.{length, length-append}
 use mir.Syntax.{w32}
 use mir.Val.{SFits}
-use Rattle.lexeme.specs.Bytes.{bytes, bytes-from}
+use Rattle.base.specs.Bytes.{bytes, bytes-from}
 use Rattle.instruction.specs.Numbers.{decimal}
 use Rattle.instruction.proofs.Digits.{few-digits}
 use Rattle.lines.specs.Lines.{counted, refused-line, ending-line, accepted-line, instruction-line}

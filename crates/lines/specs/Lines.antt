@@ -4,7 +4,7 @@ use Prim.Native.Nat.{ℕ, zero, suc, _+_, _*_, _/_}
 use Prim.Native.String.{String}
 use lib.IntN.{ℤ, pos}
 use lib.ListN.{length, getD}
-use Rattle.lexeme.specs.Bytes.{bytes}
+use Rattle.base.specs.Bytes.{bytes}
 use Rattle.instruction.specs.Numbers.{decimal}
 
 abbrev pub line-end : List ℕ

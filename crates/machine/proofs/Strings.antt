@@ -6,8 +6,8 @@ use Prim.Native.Nat.{ℕ, _+_, _-_, _≤_, _<_}
 use native.Mathlib.Omega.{arith}
 use lib.ListN.{length, take, drop, length-drop}
 use borrow.Author.Tests.{lt-ltb, le-ltb}
-use Rattle.lexeme.specs.Bytes.{no-quote, run}
-use Rattle.lexeme.proofs.Runs.{run-part}
+use Rattle.base.specs.Bytes.{no-quote, run}
+use Rattle.base.proofs.Runs.{run-part}
 use Rattle.machine.specs.Machine.{string-from}
 
 -- e is the place of the next quote from q on, or the end where there is none

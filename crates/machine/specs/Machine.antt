@@ -1,13 +1,13 @@
 -- Document 01, "How a run ends": one instruction, in the paper's order of tests, and the run.
 use mathlib.Core.List.{List, [], _∷_, _++_}
-use mathlib.Core.Bool.{false, cond}
+use mathlib.Core.Bool.{cond}
 use mathlib.Core.Option.{Option, none, some}
 use Prim.Native.Nat.{ℕ, zero, suc, _+_, _-_, _*_, _/_, _%_}
 use lib.Dec.{leb, ltb, eqb}
 use lib.IntN.{ℤ, pos, negℤ}
 use lib.ListN.{length, getD, getElem?, drop, replicate}
-use Rattle.lexeme.specs.Bytes.{no-quote}
-use Rattle.lexeme.specs.Bytes as B
+use Rattle.base.specs.Bytes.{no-quote}
+use Rattle.base.specs.Bytes as B
 use Rattle.instruction.specs.Endings.{budget-spent, no-reading-left, stack-full, print-does-not-fit, bad-code}
 use Rattle.instruction.specs.Numbers.{Result, value, ends, in-range, is-false, calculate, negation, decimal}
 use Rattle.instruction.specs.Instructions.{Instruction, halt, push-int, load-stack, store-stack, jump, jump-if-false, two-sided, negate, not, read, print-int, print-str, print-str-ln, decode}

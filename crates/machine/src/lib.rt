@@ -1,8 +1,6 @@
 // The machine: any code table, one numbered ending.
-ghost use mathlib.Core.Path.{_≡_};
 ghost use mathlib.Core.List.{[]};
-ghost use lib.ListN.{length};
-ghost use Rattle.machine.specs.Machine.{whole-run, stack-after};
+ghost use Rattle.machine.specs.Machine.{whole-run};
 ghost use Rattle.machine.specs.Machine as M;
 ghost use Rattle.machine.specs.Promise.{lends, Reported, Ran};
 use instruction::endings;
@@ -65,17 +63,6 @@ fn follow(
     }
 }
 
-// Every cell becomes 0.
-fn clear(stack: &mut [i32])
-    ensures { λ r. ⌜ now (stack .exit) ≡ stack-after (length (now (stack .entry))) ⌝ }
-{
-    let mut i = 0;
-    while i < stack.len() {
-        stack[i] = 0;
-        i += 1;
-    }
-}
-
 // A whole run of the table over the text and the readings, within the budget.
 pub fn run(
     text: &[u8],
@@ -88,7 +75,7 @@ pub fn run(
     ensures { λ r. ⌜ Ran (whole-run (lends (now (text .entry)) (now (table .entry)) (now (readings .entry)) (now (stack .entry)) (now (out .entry))) budget) (now (stack .entry)) (now (out .entry)) r (now (stack .exit)) (now (out .exit)) ⌝ }
 {
     if table.len() % 2 != 0 {
-        clear(stack);
+        base::clear(stack);
         return Report {
             ending: endings::BAD_CODE,
             steps: 0,
@@ -97,6 +84,6 @@ pub fn run(
         };
     }
     let r = follow(text, table, readings, budget, stack, out);
-    clear(stack);
+    base::clear(stack);
     r
 }

@@ -12,8 +12,8 @@ use super::decimal::put_decimal;
 use super::state::Move;
 use super::state::State;
 use super::state::moved;
+use base::Such;
 use instruction::endings;
-use lexeme::Such;
 
 // Bytes at a place with room for them.
 fn copy(out: &mut [u8], at: usize, bytes: &[u8])
@@ -51,7 +51,7 @@ pub fn print_str(s: State, text: &[u8], q: usize, more: &[u8], out: &mut [u8]) -
     requires { ⌜ Printing s (now out) ⌝ }
     ensures { λ r. ⌜ ((lent : Lent) → Prints lent (λ (at : ℕ) (st : List ℤ) (o : Outside). quoted lent at (now (more .entry)) st o (string-from (now (text .entry)) q)) s (now (out .entry)) r (now (out .exit))) ⌝ }
 {
-    let end = lexeme::run_end(text, q, Such::NoQuote);
+    let end = base::run_end(text, q, Such::NoQuote);
     if text.len() <= end {
         return Move::Stop(endings::BAD_CODE);
     }

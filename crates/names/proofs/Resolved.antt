@@ -7,8 +7,8 @@ use native.Mathlib.Nat.{le-refl, le-suc, le-trans}
 use native.Mathlib.Omega.{arith}
 use lib.Dec.{ltb}
 use borrow.Author.Tests.{ltb-true}
-use Rattle.lexeme.specs.Answers.{Answer, given, refused, pass}
-use Rattle.lexeme.specs.Bytes.{same}
+use Rattle.base.specs.Answers.{Answer, given, refused, pass}
+use Rattle.base.specs.Bytes.{same}
 use Rattle.lexeme.specs.Lexemes.{Name, Quoted}
 use Rattle.sentence.specs.Sentences.{Kind, Sen, command, literal, variable, bracket, first, multiply, unsigned, signed, add, negated, compare, print, print-line, print-string, declare, input, assign, error, while, when, block, single, then}
 use Rattle.sentence.specs.Parts.{Each}

@@ -3,8 +3,8 @@ use mathlib.Core.List.{List, [], _∷_}
 use mathlib.Core.Bool.{true, false, cond}
 use Prim.Native.Nat.{ℕ, suc}
 use lib.Dec.{ltb}
-use Rattle.lexeme.specs.Answers.{Answer, given, refused, pass}
-use Rattle.lexeme.specs.Bytes.{same}
+use Rattle.base.specs.Answers.{Answer, given, refused, pass}
+use Rattle.base.specs.Bytes.{same}
 use Rattle.lexeme.specs.Lexemes.{Name}
 use Rattle.sentence.specs.Sentences.{Kind, Sen, command, literal, variable, bracket, first, multiply, unsigned, signed, add, negated, compare, print, print-line, print-string, declare, input, assign, error, while, when, block, single, then}
 

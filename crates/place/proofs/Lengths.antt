@@ -8,8 +8,8 @@ use native.Mathlib.Omega.{arith}
 use borrow.Author.Tests.{ltb-false}
 use lib.Dec.{ltb}
 use lib.ListN.{length, take, drop, length-append, length-map, length-replicate, length-take, length-drop}
-use Rattle.lexeme.specs.Bytes.{bytes, bytes-from, run}
-use Rattle.lexeme.proofs.Runs.{run-fits}
+use Rattle.base.specs.Bytes.{bytes, bytes-from, run}
+use Rattle.base.proofs.Runs.{run-fits}
 use Rattle.place.specs.Places.{goes-on, begins, within, before, after}
 use Rattle.place.specs.Shown.{Widths, shown-from, shown-to, only, line, mark, marked, marked-line}
 use Rattle.place.proofs.Places.{count-fits}

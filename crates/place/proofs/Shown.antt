@@ -10,8 +10,8 @@ use borrow.Author.Tests.{le-ltb, lt-ltb, leb-true, leb-false}
 use lib.Dec.{leb, ltb}
 use lib.ListN.{length, take, drop, length-take, length-drop, drop-of-length-le, getD, replicate, replicate-append-replicate}
 use lib.Seq.{take-suc, take-all, take-length, drop-length}
-use Rattle.lexeme.specs.Bytes.{run}
-use Rattle.lexeme.proofs.Runs.{run-fits, run-part}
+use Rattle.base.specs.Bytes.{run}
+use Rattle.base.proofs.Runs.{run-fits, run-part}
 use Rattle.lines.specs.Added.{Added}
 use Rattle.place.specs.Places.{goes-on, no-feed, within, line-start, before, after}
 use Rattle.place.specs.Shown.{Widths, seen, shown-from, shown-to, line, mark, marked, marked-line}

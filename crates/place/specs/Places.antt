@@ -4,7 +4,7 @@ use mathlib.Core.Bool.{Bool, true, false, not}
 use Prim.Native.Nat.{ℕ, zero, suc, _+_, _-_, min}
 use lib.Dec.{eqb}
 use lib.ListN.{length, getD, take, drop}
-use Rattle.lexeme.specs.Bytes.{between, run}
+use Rattle.base.specs.Bytes.{between, run}
 use Rattle.place.specs.declared.Spot.{Spot}
 
 -- a line feed ends a line

@@ -5,7 +5,7 @@ use Prim.Native.Nat.{ℕ, _+_, _-_}
 use Prim.Native.Char.{code}
 use lib.Dec.{eqb, ltb}
 use lib.ListN.{length, take, drop, replicate}
-use Rattle.lexeme.specs.Bytes.{bytes, run}
+use Rattle.base.specs.Bytes.{bytes, run}
 use Rattle.place.specs.Places.{goes-on, begins, count, within, before, after}
 
 -- how much is shown: before the place `whole` bytes at most, and of more than those the last `last`; from the place on `next`, and `rest` more at most that go on a character

@@ -3,7 +3,7 @@ ghost use mathlib.Core.Path.{_≡_};
 ghost use mathlib.Core.List.{map};
 ghost use Prim.Native.Nat.{_≤_};
 ghost use lib.ListN.{length, replicate};
-ghost use Rattle.lexeme.specs.Bytes.{run};
+ghost use Rattle.base.specs.Bytes.{run};
 ghost use Rattle.lines.specs.Added.{Added};
 ghost use Rattle.place.specs.Places.{goes-on, count, within, line-start, spot};
 ghost use Rattle.place.specs.Kinds.{such};

@@ -9,7 +9,7 @@ use lib.Dec.{leb}
 use lib.ListN.{length, take}
 use lib.Seq.{take-all, length-take-le}
 use Rattle.limits.specs.Limits.{Limits}
-use Rattle.lexeme.specs.Answers.{pass, refused}
+use Rattle.base.specs.Answers.{pass, refused}
 use Rattle.compiler.specs.Compiled.{short-enough, lexed, compiled}
 use Rattle.programs.specs.Programs.{judged}
 

@@ -10,7 +10,7 @@ use lib.IntN.{ℤ}
 use lib.ListN.{length, take, drop}
 use lib.Seq.{take-at}
 use Rattle.limits.specs.Limits.{Limits}
-use Rattle.lexeme.specs.Answers.{Answer, given, refused, pass}
+use Rattle.base.specs.Answers.{Answer, given, refused, pass}
 use Rattle.machine.specs.Machine.{Report, room-after}
 use Rattle.machine.specs.declared.Report as Code
 use Rattle.meaning.proofs.Needs.{need-within}

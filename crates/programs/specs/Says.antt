@@ -4,7 +4,7 @@ use mathlib.Core.List.{List}
 use Prim.Native.Nat.{ℕ}
 use lib.ListN.{length, take}
 use Rattle.limits.specs.Limits.{Sizes}
-use Rattle.lexeme.specs.Answers.{Answer, given, refused}
+use Rattle.base.specs.Answers.{Answer, given, refused}
 use Rattle.machine.specs.Machine.{Report, room-after}
 use Rattle.machine.specs.Promise.{Reported}
 use Rattle.machine.specs.declared.Report as Code

@@ -5,7 +5,7 @@ use Prim.Native.Nat.{ℕ, _+_, _≤_}
 use native.Mathlib.Omega.{arith}
 use lib.Dec.{eqb}
 use lib.ListN.{length, length-append}
-use Rattle.lexeme.specs.Bytes.{bytes, bytes-from}
+use Rattle.base.specs.Bytes.{bytes, bytes-from}
 use Rattle.machine.specs.Machine.{Report}
 use Rattle.lines.proofs.Short.{Small, short-counted}
 use Rattle.place.specs.Places.{spot}

@@ -5,8 +5,8 @@ use Prim.Native.Nat.{ℕ}
 use lib.Dec.{eqb}
 use lib.ListN.{length}
 use Rattle.limits.specs.Limits.{Limits, Station}
-use Rattle.lexeme.specs.Answers.{Answer, given, refused}
-use Rattle.lexeme.specs.Bytes.{bytes}
+use Rattle.base.specs.Answers.{Answer, given, refused}
+use Rattle.base.specs.Bytes.{bytes}
 use Rattle.machine.specs.Machine.{Report}
 use Rattle.lines.specs.Lines.{line-end, counted}
 use Rattle.place.specs.Places.{spot}

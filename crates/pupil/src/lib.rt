@@ -4,7 +4,7 @@ ghost use mathlib.Core.Bool.{cond};
 ghost use mathlib.Core.List.{[]};
 ghost use Prim.Native.Nat.{_+_, _≤_};
 ghost use lib.ListN.{length};
-ghost use Rattle.lexeme.specs.Bytes.{bytes};
+ghost use Rattle.base.specs.Bytes.{bytes};
 ghost use Rattle.lines.specs.Added.{Added};
 ghost use Rattle.programs.specs.Says.{Says, with-output};
 ghost use Rattle.pupil.specs.Shows.{has-place, at-place, shown-refusal, shown-output, steps-taken, shown-run, shown};

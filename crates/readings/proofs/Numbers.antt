@@ -9,7 +9,7 @@ use mir.Syntax.{w32, w64}
 use mir.Val.{SFits, toZ}
 use mir.Facts.{toZ-pos}
 use borrow.Author.Tests.{leb-true}
-use Rattle.lexeme.specs.Bytes.{digit}
+use Rattle.base.specs.Bytes.{digit}
 use Rattle.readings.specs.Readings.{in-range}
 
 first : (t u : Bool) → t && u ≡ true → t ≡ true

@@ -12,7 +12,7 @@ use lib.IntN.{ℤ}
 use lib.ListN.{length, drop, set, length-set}
 use lib.Seq.{sets-eq}
 use borrow.Author.Tests.{lt-ltb, le-ltb, leb-true}
-use Rattle.lexeme.specs.Bytes.{separator, run}
+use Rattle.base.specs.Bytes.{separator, run}
 use Rattle.readings.specs.Readings.{number, reading, other, past, readings}
 use Rattle.readings.specs.Rest.{after, within, left, stored-after, takes, stopped, over}
 use Rattle.readings.specs.Steps.{Held, held, word-more, stored, ended, ended-at}

@@ -8,10 +8,9 @@ use native.Mathlib.Omega.{arith}
 use lib.Dec.{eqb}
 use lib.IntN.{ℤ}
 use borrow.Author.Tests.{leb-false, lt-leb}
-use Rattle.lexeme.specs.Bytes.{separator, digit, run, all}
-use Rattle.lexeme.specs.Lexemes.{value}
-use Rattle.lexeme.proofs.Runs.{run-yes, run-no}
-use Rattle.lexeme.proofs.Words.{value-grows}
+use Rattle.base.specs.Bytes.{separator, digit, run, all, value}
+use Rattle.base.proofs.Runs.{run-yes, run-no}
+use Rattle.base.proofs.Words.{value-grows}
 use Rattle.readings.specs.Readings.{in-range, number, decimal, reading, other, past, readings}
 use Rattle.readings.specs.Rest.{word-of, after, within, left}
 use Rattle.readings.specs.Steps.{digit-more, word-more}

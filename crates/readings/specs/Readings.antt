@@ -7,8 +7,7 @@ use Prim.Native.Char.{code}
 use lib.Dec.{leb, eqb}
 use lib.IntN.{ℤ, pos, negℤ}
 use lib.ListN.{length, drop}
-use Rattle.lexeme.specs.Bytes.{separator, digit, run, all}
-use Rattle.lexeme.specs.Lexemes.{value}
+use Rattle.base.specs.Bytes.{separator, digit, run, all, value}
 
 -- whether a number with this sign and magnitude is in the signed 32-bit range
 unfoldable pub in-range : Bool → ℕ → Bool

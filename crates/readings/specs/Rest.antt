@@ -8,8 +8,7 @@ use lib.Dec.{leb}
 use lib.IntN.{ℤ}
 use lib.ListN.{length}
 use lib.Seq.{sets}
-use Rattle.lexeme.specs.Bytes.{digit, run, all}
-use Rattle.lexeme.specs.Lexemes.{value}
+use Rattle.base.specs.Bytes.{digit, run, all, value}
 use Rattle.readings.specs.Readings.{number, decimal, reading, other, past, readings}
 use Rattle.readings.specs.Taken.{Taken}
 use Rattle.readings.specs.declared.Phase.{Phase}

@@ -7,7 +7,7 @@ use Prim.Native.Char.{code}
 use lib.Dec.{ltb, eqb}
 use lib.IntN.{ℤ}
 use lib.ListN.{length, set}
-use Rattle.lexeme.specs.Bytes.{digit}
+use Rattle.base.specs.Bytes.{digit}
 use Rattle.readings.specs.Readings.{in-range, number}
 use Rattle.readings.specs.declared.Phase.{Phase}
 use Rattle.readings.specs.declared.Phase.the-variants.{Between, Minus, Number, Over}

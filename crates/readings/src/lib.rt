@@ -45,7 +45,7 @@ fn signed(negative: bool, n: u64) -> i32
 fn digit_more(negative: bool, n: u32, b: u8) -> Phase
     ensures { λ r. ⌜ r ≡ digit-more negative n b ⌝ }
 {
-    if !lexeme::is_digit(b) {
+    if !base::is_digit(b) {
         return Phase::Over;
     }
     let m = n as u64 * 10 + (b - 48) as u64;
@@ -113,7 +113,7 @@ fn end_word(r: Reader, numbers: &mut [i32]) -> Reader
 fn take_byte(r: Reader, b: u8, numbers: &mut [i32]) -> Reader
     ensures { λ e. ⌜ ((rest : List ℕ) → takes e (now (numbers .exit)) rest ≡ takes r (now (numbers .entry)) (b ∷ rest)) ⌝ }
 {
-    if lexeme::is_separator(b) {
+    if base::is_separator(b) {
         return end_word(r, numbers);
     }
     let phase = r.phase;

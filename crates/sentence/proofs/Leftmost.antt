@@ -9,7 +9,7 @@ use native.Mathlib.Omega.{arith}
 use lib.Dec.{T, ltb}
 use lib.ListN.{getD}
 use borrow.Author.Tests.{ltb-true, ltb-false}
-use Rattle.lexeme.specs.Answers.{Answer, given, refused}
+use Rattle.base.specs.Answers.{Answer, given, refused}
 use Rattle.lexeme.specs.Lexemes.{Name, Lexeme, Placed}
 use Rattle.sentence.specs.Sentences.{Sen, command}
 use Rattle.sentence.specs.Grammar.{whats}

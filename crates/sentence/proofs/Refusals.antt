@@ -6,7 +6,7 @@ use Prim.Native.Nat.{ℕ, _<_, zero-le}
 use native.Mathlib.Omega.{arith}
 use lib.Dec.{T, T-not}
 use lib.ListN.{length}
-use Rattle.lexeme.specs.Answers.{Answer, given, refused}
+use Rattle.base.specs.Answers.{Answer, given, refused}
 use Rattle.lexeme.specs.Lexemes.{Name, Lexeme, Placed, fixed, end}
 use Rattle.lexeme.specs.Coded.{code-of}
 use Rattle.sentence.specs.Sentences.{Sen, command, program-nestings}

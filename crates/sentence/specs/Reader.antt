@@ -4,7 +4,7 @@ use mathlib.Core.List.{List, [], _∷_}
 use mathlib.Core.Bool.{Bool, true, false, cond}
 use Prim.Native.Nat.{ℕ, zero, suc}
 use lib.Dec.{ltb, eqb}
-use Rattle.lexeme.specs.Answers.{Answer, given, refused}
+use Rattle.base.specs.Answers.{Answer, given, refused}
 use Rattle.lexeme.specs.Coded.{code-of}
 use Rattle.lexeme.specs.Lexemes.{Name, Quoted, Sign, Mul, Rel, Fixed, Lexeme, Placed, lit, name, class, string, sign, mul, rel, fixed}
 use Rattle.lexeme.specs.Lexemes.{open-round, close-round, open-brace, close-brace, becomes, DO, ERROR, IF, INT, NOT, PRINTI, PRINTLNS, PRINTS, READ, THEN, WHILE, end}

@@ -5,7 +5,7 @@ use Prim.Native.Nat.{ℕ, _≤_}
 use native.Mathlib.Omega.{arith}
 use lib.Dec.{eqb, leb}
 use lib.ListN.{length, length-append}
-use Rattle.lexeme.specs.Bytes.{bytes, bytes-from, letter-or-digit, digit}
+use Rattle.base.specs.Bytes.{bytes, bytes-from, letter-or-digit, digit}
 use Rattle.lines.specs.Lines.{counted}
 use Rattle.lines.proofs.Short.{Small, short-natural}
 use Rattle.words.specs.Words.{no-lexeme, too-large, cannot-stand, why-later, why, how-later, how}

@@ -5,7 +5,7 @@ use Prim.Native.Nat.{ℕ}
 use Prim.Native.Char.{code}
 use lib.Dec.{eqb, leb}
 use lib.ListN.{length, getD}
-use Rattle.lexeme.specs.Bytes.{bytes, letter-or-digit, digit}
+use Rattle.base.specs.Bytes.{bytes, letter-or-digit, digit}
 use Rattle.lines.specs.Lines.{counted}
 use Rattle.words.specs.declared.Numbers.{Numbers}
 

@@ -6,7 +6,7 @@ ghost use lib.ListN.{getD};
 ghost use Rattle.instruction.specs.Numbers.{decimal};
 ghost use Rattle.lines.specs.Added.{Added};
 ghost use Rattle.words.specs.Words.{no-lexeme, too-large, cannot-stand, why-later, why, how-later, how};
-use lexeme::Such;
+use base::Such;
 use limits::Limits;
 use limits::Station;
 
@@ -63,7 +63,7 @@ fn put_no_lexeme(page: &mut [u8], at: usize, b: u8) -> usize
     if b == b':' {
         return lines::put(page, at, b"A colon stands only before =, as in t := 1.");
     }
-    if lexeme::is_such(Such::LetterOrDigit, b) {
+    if base::is_such(Such::LetterOrDigit, b) {
         return lines::put(
             page,
             at,
@@ -92,7 +92,7 @@ fn put_too_large(page: &mut [u8], at: usize, n: Numbers, b: u8) -> usize
             b" bytes between its quotes. Print it in parts.",
         );
     }
-    if lexeme::is_digit(b) {
+    if base::is_digit(b) {
         return around(
             page,
             at,

@@ -2,7 +2,7 @@
 use mathlib.Core.Path.{_∙_}
 use denote.Ref.{now}
 use lib.ListN.{drop}
-use Rattle.lexeme.specs.Bytes.{bytes, bytes-from}
+use Rattle.base.specs.Bytes.{bytes, bytes-from}
 use Rattle.lexeme.specs.Lexemes.{keywords}
 use Rattle.lexeme.specs.Coded.{code-of}
 use Rattle.lexeme.proofs.Words.{Left, all-left, keyword-hit, keyword-miss}

@@ -1,7 +1,7 @@
 -- `lexeme::later_capital_word` meets its contract: one law for a keyword that is the word, one for a keyword that is not. Assumes nothing.
 use denote.Ref.{now}
 use lib.ListN.{drop}
-use Rattle.lexeme.specs.Bytes.{bytes, bytes-from}
+use Rattle.base.specs.Bytes.{bytes, bytes-from}
 use Rattle.lexeme.specs.Lexemes.{keywords, capital-word}
 use Rattle.lexeme.specs.Coded.{code-of, kind-of}
 use Rattle.lexeme.proofs.Words.{Left, all-left, keyword-hit, keyword-miss}

@@ -3,7 +3,7 @@ use denote.Ref.{now}
 use native.Mathlib.Omega.{arith}
 use lib.ListN.{getD}
 use borrow.Author.Tests.{le-leb, lt-leb}
-use Rattle.lexeme.specs.Bytes.{small}
+use Rattle.base.specs.Bytes.{small}
 use Rattle.lexeme.proofs.Words.{starts-empty, starts-first}
 use borrow.Author.Needs.{needs}
 use Rattle.lexeme.proofs.starts_small.Statement.{statement}

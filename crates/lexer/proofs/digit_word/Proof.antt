@@ -6,9 +6,10 @@ use borrow.Author.Needs.{needs}
 use borrow.Author.Tests.{lt-ltb, le-ltb}
 use denote.Ref.{now}
 use lib.ListN.{length, drop}
-use Rattle.lexeme.specs.Lexemes.{value, digit-word, found}
+use Rattle.base.specs.Bytes.{value}
+use Rattle.lexeme.specs.Lexemes.{digit-word, found}
 use Rattle.lexeme.specs.Coded.{kind-of, coded}
-use Rattle.lexeme.proofs.Words.{value-on, value-out, value-grows}
+use Rattle.base.proofs.Words.{value-on, value-out, value-grows}
 use Rattle.lexer.proofs.digit_word.Statement.{statement}
 use Rattle.lexer.proofs.digit_word.Tie as tie
 

@@ -6,10 +6,11 @@ use native.Mathlib.Omega.{arith}
 use borrow.Author.Tests.{ne-eqb}
 use denote.Ref.{now}
 use lib.ListN.{getD, drop, length-drop}
-use Rattle.lexeme.specs.Bytes.{letter-or-digit}
+use Rattle.base.specs.Bytes.{letter-or-digit}
 use Rattle.lexeme.specs.Lexemes.{Sizes, next}
-use Rattle.lexeme.specs.Coded.{such, coded}
-use Rattle.lexeme.proofs.Runs.{run-part, run-fits}
+use Rattle.base.specs.Kinds.{such}
+use Rattle.lexeme.specs.Coded.{coded}
+use Rattle.base.proofs.Runs.{run-part, run-fits}
 use Rattle.lexeme.proofs.Places.{here-end, here-word, here-other, other}
 use borrow.Author.Needs.{needs}
 use Rattle.lexer.proofs.next.Statement.{statement}

@@ -2,7 +2,8 @@
 use mathlib.Core.Path.{ap}
 use borrow.Author.Needs.{needs}
 use Rattle.lexeme.specs.Lexemes.{found}
-use Rattle.lexeme.specs.Coded.{such, kind-of, coded}
+use Rattle.base.specs.Kinds.{such}
+use Rattle.lexeme.specs.Coded.{kind-of, coded}
 use Rattle.lexeme.proofs.Words.{string-open, string-long, string-fits}
 use Rattle.lexer.proofs.string_at.Statement.{statement}
 use Rattle.lexer.proofs.string_at.Tie as tie

@@ -3,9 +3,10 @@ use mathlib.Core.Path.{_≡_, sym, _∙_}
 use mathlib.Core.List.{List}
 use mathlib.Core.Bool.{Bool}
 use Prim.Native.Nat.{ℕ}
-use Rattle.lexeme.specs.Bytes.{letter, digit, all}
+use Rattle.base.specs.Bytes.{letter, digit, all}
 use Rattle.lexeme.specs.Lexemes.{word}
-use Rattle.lexeme.specs.Coded.{such, coded}
+use Rattle.base.specs.Kinds.{such}
+use Rattle.lexeme.specs.Coded.{coded}
 use borrow.Author.Needs.{needs}
 use Rattle.lexer.proofs.word_at.Statement.{statement}
 use Rattle.lexer.proofs.word_at.Tie as tie

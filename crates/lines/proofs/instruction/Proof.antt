@@ -2,7 +2,7 @@
 use native.Mathlib.Omega.{arith}
 use Rattle.lines.proofs.Short.{short-instruction}
 use Rattle.lines.proofs.Adds.{adds-then}
-use Rattle.lexeme.specs.Bytes.{bytes, bytes-from}
+use Rattle.base.specs.Bytes.{bytes, bytes-from}
 use Rattle.lines.specs.Lines.{instruction-line}
 use mir.Facts.{toZ-ofZ}
 use borrow.Author.Needs.{needs}

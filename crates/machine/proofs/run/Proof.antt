@@ -18,6 +18,7 @@ same-length : tie.Need-same-length
 same-length c = search needs
 
 returns : tie.Need-returns
+unfolding stack-after
 returns c = record { reported = odd-table (lent (c .before .before .before .before .before .before)) (c .before .before .before .before .before .before .args .budget) (now (c .before .before .before .before .before .before .args .out)) (c .before .before .before .if1 .taken); stack = c .before .clear .ensures }
 
 follow-requires : tie.Need-follow-requires
@@ -33,6 +34,7 @@ same-length-3 : tie.Need-same-length-3
 same-length-3 c = search needs
 
 returns-2 : tie.Need-returns-2
+unfolding stack-after
 returns-2 c = record { reported = rw (even-table (lent (c .before .before .before .before .before .before .before .before .before .before .before .before)) (c .before .before .before .before .before .before .before .before .before .before .before .before .args .budget) (c .before .before .before .before .before .before .before .before .before .if1 .left)) (c .before .before .before .before .before .before .follow .ensures); stack = c .before .clear2 .ensures ∙ ap stack-after (c .before .before .before .before .before .before .follow .kept .1 .1 .1 .1 .0) }
 
 pub run-spec : {M : Type 1} → statement M

@@ -1,5 +1,5 @@
 -- `place::put_line` meets its contract. Assumes nothing.
-use Rattle.lexeme.specs.Bytes.{bytes, bytes-from}
+use Rattle.base.specs.Bytes.{bytes, bytes-from}
 use Rattle.lines.proofs.Adds.{adds-then}
 use Rattle.place.specs.Shown.{line}
 use borrow.Author.Needs.{needs}

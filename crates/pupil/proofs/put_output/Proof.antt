@@ -2,7 +2,7 @@
 use borrow.Author.Tests.{eq-eqb, ne-eqb}
 use lib.ListN.{length}
 use denote.Ref.{now}
-use Rattle.lexeme.specs.Bytes.{bytes, bytes-from}
+use Rattle.base.specs.Bytes.{bytes, bytes-from}
 use Rattle.pupil.specs.Shows.{shown-output}
 use borrow.Author.Needs.{needs}
 use Rattle.pupil.proofs.put_output.Statement.{statement}

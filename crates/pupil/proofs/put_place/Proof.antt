@@ -1,6 +1,6 @@
 -- `pupil::put_place` meets its contract. Assumes nothing.
 use Rattle.lines.proofs.Adds.{adds-then}
-use Rattle.lexeme.specs.Bytes.{bytes, bytes-from}
+use Rattle.base.specs.Bytes.{bytes, bytes-from}
 use Rattle.lines.specs.Lines.{counted}
 use denote.Ref.{now}
 use Rattle.place.proofs.Lengths.{marked-fits}

@@ -1,6 +1,6 @@
 -- `pupil::put_steps` meets its contract. Assumes nothing.
 use Rattle.lines.proofs.Adds.{adds-then}
-use Rattle.lexeme.specs.Bytes.{bytes, bytes-from}
+use Rattle.base.specs.Bytes.{bytes, bytes-from}
 use Rattle.lines.specs.Lines.{counted}
 use Rattle.pupil.specs.Shows.{steps-taken}
 use borrow.Author.Needs.{needs}

@@ -1,7 +1,7 @@
 -- `pupil::put_where` meets its contract. Assumes nothing.
 use mathlib.Core.Path.{sym, _∙_}
 use native.Mathlib.Omega.{arith}
-use Rattle.lexeme.specs.Bytes.{bytes, bytes-from}
+use Rattle.base.specs.Bytes.{bytes, bytes-from}
 use borrow.Author.Needs.{needs}
 use Rattle.pupil.proofs.put_where.Statement.{statement}
 use Rattle.pupil.proofs.put_where.Tie as tie

@@ -1,5 +1,5 @@
 -- `words::put_cannot_stand` meets its contract. Assumes nothing.
-use Rattle.lexeme.specs.Bytes.{bytes, bytes-from}
+use Rattle.base.specs.Bytes.{bytes, bytes-from}
 use Rattle.words.specs.Words.{cannot-stand}
 use borrow.Author.Needs.{needs}
 use Rattle.words.proofs.put_cannot_stand.Statement.{statement}

@@ -1,8 +1,8 @@
 -- `words::put_no_lexeme` meets its contract. Assumes nothing.
 use mathlib.Core.Path.{sym, _∙_}
 use borrow.Author.Tests.{eq-eqb, ne-eqb, le-leb, lt-leb}
-use Rattle.lexeme.specs.Bytes.{bytes, bytes-from}
-use Rattle.lexeme.specs.Coded.{such}
+use Rattle.base.specs.Bytes.{bytes, bytes-from}
+use Rattle.base.specs.Kinds.{such}
 use Rattle.words.specs.Words.{no-lexeme}
 use borrow.Author.Needs.{needs}
 use Rattle.words.proofs.put_no_lexeme.Statement.{statement}

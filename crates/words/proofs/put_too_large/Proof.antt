@@ -1,7 +1,7 @@
 -- `words::put_too_large` meets its contract. Assumes nothing.
 use mathlib.Core.Path.{sym, _∙_}
 use borrow.Author.Tests.{eq-eqb, ne-eqb}
-use Rattle.lexeme.specs.Bytes.{bytes, bytes-from}
+use Rattle.base.specs.Bytes.{bytes, bytes-from}
 use Rattle.lines.specs.Lines.{counted}
 use Rattle.words.specs.Words.{too-large}
 use borrow.Author.Needs.{needs}

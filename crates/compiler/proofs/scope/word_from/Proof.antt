@@ -4,9 +4,9 @@ use native.Mathlib.Omega.{arith}
 use borrow.Author.Needs.{needs}
 use denote.Ref.{now}
 use lib.ListN.{length, drop, drop-of-length-le, length-drop}
-use Rattle.lexeme.specs.Bytes.{letter-or-digit, run}
-use Rattle.lexeme.specs.Coded.{such}
-use Rattle.lexeme.proofs.Runs.{run-fits, run-part}
+use Rattle.base.specs.Bytes.{letter-or-digit, run}
+use Rattle.base.specs.Kinds.{such}
+use Rattle.base.proofs.Runs.{run-fits, run-part}
 use Rattle.compiler.specs.Scopes.{word-at}
 use Rattle.compiler.proofs.scope.word_from.Statement.{statement}
 use Rattle.compiler.proofs.scope.word_from.Tie as tie

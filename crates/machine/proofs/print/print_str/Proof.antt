@@ -1,7 +1,7 @@
 -- `print::print_str` meets its contract. Assumes nothing.
 use borrow.Author.Needs.{needs}
 use denote.Ref.{now}
-use Rattle.lexeme.specs.Coded.{such}
+use Rattle.base.specs.Kinds.{such}
 use Rattle.machine.specs.Machine.{quoted}
 use Rattle.machine.proofs.Steps.{stops, also}
 use Rattle.machine.proofs.Strings.{no-string, the-string}

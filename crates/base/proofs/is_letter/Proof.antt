@@ -1,9 +1,9 @@
 -- `lexeme::is_letter` meets its contract. Assumes nothing.
 use borrow.Author.Tests.{le-leb, lt-leb}
 use native.Mathlib.Omega.{arith}
-use Rattle.lexeme.specs.Bytes.{small, capital, letter}
-use Rattle.lexeme.proofs.is_letter.Statement.{statement}
-use Rattle.lexeme.proofs.is_letter.Tie as tie
+use Rattle.base.specs.Bytes.{small, capital, letter}
+use Rattle.base.proofs.is_letter.Statement.{statement}
+use Rattle.base.proofs.is_letter.Tie as tie
 
 returns : tie.Need-returns
 unfolding letter small capital

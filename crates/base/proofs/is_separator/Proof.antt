@@ -5,9 +5,9 @@ use Prim.Native.Nat.{_<_}
 use native.Mathlib.Nat.{eq-or-lt-of-le}
 use borrow.Author.Tests.{ne-eqb}
 use native.Mathlib.Omega.{arith}
-use Rattle.lexeme.specs.Bytes.{separator}
-use Rattle.lexeme.proofs.is_separator.Statement.{statement}
-use Rattle.lexeme.proofs.is_separator.Tie as tie
+use Rattle.base.specs.Bytes.{separator}
+use Rattle.base.proofs.is_separator.Statement.{statement}
+use Rattle.base.proofs.is_separator.Tie as tie
 
 returns : tie.Need-returns
 unfolding separator

@@ -1,10 +1,10 @@
 -- `lexeme::is_such` meets its contract. Assumes nothing.
 use mathlib.Core.Path.{refl}
-use Rattle.lexeme.specs.Bytes.{letter-or-digit, no-quote}
-use Rattle.lexeme.specs.Coded.{such}
+use Rattle.base.specs.Bytes.{letter-or-digit, no-quote}
+use Rattle.base.specs.Kinds.{such}
 use borrow.Author.Needs.{needs}
-use Rattle.lexeme.proofs.is_such.Statement.{statement}
-use Rattle.lexeme.proofs.is_such.Tie as tie
+use Rattle.base.proofs.is_such.Statement.{statement}
+use Rattle.base.proofs.is_such.Tie as tie
 
 enum-told : tie.Need-enum-told
 enum-told c = search needs

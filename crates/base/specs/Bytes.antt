@@ -1,7 +1,7 @@
 -- Bytes, and their classes in document 01, "Lexemes". A text is a list of bytes; a place in it is counted from 0.
 use mathlib.Core.List.{List, [], _∷_}
 use mathlib.Core.Bool.{Bool, true, false, not, _&&_, _||_}
-use Prim.Native.Nat.{ℕ, zero, suc}
+use Prim.Native.Nat.{ℕ, zero, suc, _+_, _-_, _*_}
 use Prim.Native.String.{String, len, charAt}
 use Prim.Native.Char.{code}
 use lib.Dec.{leb, eqb}
@@ -56,3 +56,8 @@ same [] [] = true
 same [] (b ∷ t) = false
 same (a ∷ s) [] = false
 same (a ∷ s) (b ∷ t) = elim (eqb a b) [ true ↦ same s t | false ↦ false ]
+
+-- the value of a digit word, whose leading digits are worth n
+unfoldable pub value : ℕ → List ℕ → ℕ
+value n [] = n
+value n (b ∷ w) = value (n * 10 + (b - 48)) w

@@ -9,7 +9,7 @@ use native.Mathlib.Omega.{arith}
 use lib.Dec.{eqb, eqb·zero-suc, eqb·suc-suc}
 use lib.ListN.{length, getD, take, drop, drop-of-length-le}
 use lib.Seq.{drop-cons}
-use Rattle.lexeme.specs.Bytes.{run, all}
+use Rattle.base.specs.Bytes.{run, all}
 
 module _ (such : ℕ → Bool) where
   -- a run after the test of its first byte

@@ -4,10 +4,10 @@ use mathlib.Core.Path.{_≡_, refl, _∙_}
 use native.Mathlib.Omega.{arith}
 use denote.Ref.{now}
 use lib.ListN.{length, drop}
-use Rattle.lexeme.specs.Bytes.{same}
-use Rattle.lexeme.proofs.Words.{same-on, same-stop, same-out, same-long}
-use Rattle.lexeme.proofs.is_same.Statement.{statement}
-use Rattle.lexeme.proofs.is_same.Tie as tie
+use Rattle.base.specs.Bytes.{same}
+use Rattle.base.proofs.Words.{same-on, same-stop, same-out, same-long}
+use Rattle.base.proofs.is_same.Statement.{statement}
+use Rattle.base.proofs.is_same.Tie as tie
 
 abbrev Inv-loop : tie.InvT-loop
 Inv-loop a b i₀ i = (i ≤ length a) × (same (drop i a) (drop i b) ≡ same a b)

@@ -3,12 +3,12 @@ use mathlib.Core.Path.{_≡_}
 use native.Mathlib.Omega.{arith}
 use denote.Ref.{now}
 use lib.ListN.{length}
-use Rattle.lexeme.specs.Bytes.{run}
-use Rattle.lexeme.specs.Coded.{such}
-use Rattle.lexeme.proofs.Runs.{all-run}
+use Rattle.base.specs.Bytes.{run}
+use Rattle.base.specs.Kinds.{such}
+use Rattle.base.proofs.Runs.{all-run}
 use borrow.Author.Needs.{needs}
-use Rattle.lexeme.proofs.is_all.Statement.{statement}
-use Rattle.lexeme.proofs.is_all.Tie as tie
+use Rattle.base.proofs.is_all.Statement.{statement}
+use Rattle.base.proofs.is_all.Tie as tie
 
 run-end-requires : tie.Need-run-end-requires
 run-end-requires c κs = search needs

@@ -5,11 +5,11 @@ use native.Mathlib.Omega.{arith}
 use borrow.Author.Needs.{needs}
 use borrow.Author.Tests.{not-true, not-false}
 use lib.ListN.{length, drop}
-use Rattle.lexeme.specs.Bytes.{run}
-use Rattle.lexeme.specs.Coded.{such}
-use Rattle.lexeme.proofs.Runs.{run-on, run-stop, run-out}
-use Rattle.lexeme.proofs.run_end.Statement.{statement}
-use Rattle.lexeme.proofs.run_end.Tie as tie
+use Rattle.base.specs.Bytes.{run}
+use Rattle.base.specs.Kinds.{such}
+use Rattle.base.proofs.Runs.{run-on, run-stop, run-out}
+use Rattle.base.proofs.run_end.Statement.{statement}
+use Rattle.base.proofs.run_end.Tie as tie
 
 abbrev Inv-loop : tie.InvT-loop
 Inv-loop text at kind i₀ i = i + length (run (such kind) (drop i text)) ≡ at + length (run (such kind) (drop at text))

@@ -1,9 +1,9 @@
 -- `lexeme::is_digit` meets its contract. Assumes nothing.
 use borrow.Author.Tests.{le-leb, lt-leb}
 use native.Mathlib.Omega.{arith}
-use Rattle.lexeme.specs.Bytes.{digit}
-use Rattle.lexeme.proofs.is_digit.Statement.{statement}
-use Rattle.lexeme.proofs.is_digit.Tie as tie
+use Rattle.base.specs.Bytes.{digit}
+use Rattle.base.proofs.is_digit.Statement.{statement}
+use Rattle.base.proofs.is_digit.Tie as tie
 
 returns : tie.Need-returns
 unfolding digit

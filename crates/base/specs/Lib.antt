@@ -1,0 +1,3 @@
+pub mod Answers
+pub mod Bytes
+pub mod Kinds
