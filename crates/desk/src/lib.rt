@@ -2,6 +2,7 @@
 ghost use lib.ListN.{length};
 ghost use Rattle.input.specs.Received.{Receives};
 ghost use Rattle.input.specs.Within.{Within};
+ghost use Rattle.desk.specs.Lessons.{Brings};
 use input::Loaded;
 use input::Received;
 use libc::STDERR_FILENO;
@@ -26,7 +27,7 @@ pub fn trouble(what: &[u8]) {
 }
 
 // The text of the file that the first argument names. Where there is none, that is told.
-pub fn text_argument(text: &mut [u8]) -> Loaded
+fn text_argument(text: &mut [u8]) -> Loaded
     ensures { λ r. ⌜ Within r (length (now (text .exit))) ⌝ }
 {
     let mut path = io::buffer();
@@ -56,7 +57,7 @@ pub fn text_input(text: &mut [u8]) -> Loaded
 }
 
 // The readings on standard input.
-pub fn readings_input(numbers: &mut [i32]) -> Received
+fn readings_input(numbers: &mut [i32]) -> Received
     ensures { λ r. ⌜ Receives r (now (numbers .entry)) (now (numbers .exit)) ⌝ }
 {
     let received = input::readings_of(STDIN_FILENO, numbers);
@@ -65,6 +66,27 @@ pub fn readings_input(numbers: &mut [i32]) -> Received
         return Received::Unreadable;
     };
     received
+}
+
+// The bytes of a text, and its readings.
+pub enum Lesson {
+    Read(usize, usize),
+    Unreadable,
+}
+
+// What a lesson is run on. Where it cannot be read, that is told.
+pub fn read_lesson(text: &mut [u8], numbers: &mut [i32]) -> Lesson
+    ensures { λ r. ⌜ Brings r (now (text .exit)) (now (numbers .entry)) (now (numbers .exit)) ⌝ }
+{
+    let loaded = text_argument(text);
+    let Loaded::Bytes(size) = loaded else {
+        return Lesson::Unreadable;
+    };
+    let received = readings_input(numbers);
+    let Received::Readings(count) = received else {
+        return Lesson::Unreadable;
+    };
+    Lesson::Read(size, count)
 }
 
 // Writes what a program says, and then its status; a write that fails is trouble, since nobody got what was said.
