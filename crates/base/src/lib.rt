@@ -1,10 +1,39 @@
-// Bytes, their classes, and comparing them; and numbers set to 0.
+// Bytes, their classes, and comparing them; refusals and their numbers; and numbers set to 0.
 ghost use mathlib.Core.Path.{_≡_};
 ghost use Prim.Native.Nat.{_+_};
 ghost use lib.IntN.{pos};
 ghost use lib.ListN.{length, drop, replicate};
 ghost use Rattle.base.specs.Bytes.{separator, letter, digit, run, all, same};
 ghost use Rattle.base.specs.Kinds.{such};
+ghost use Rattle.base.specs.Answers.{number};
+
+// Why a text is refused: document 01, "Refused texts".
+pub enum Refusal {
+    TooLong,
+    NoLexeme,
+    TooLarge,
+    NoProgram,
+    TooDeep,
+    Undeclared,
+    TooManyDeclared,
+    TooMuchCode,
+}
+
+// The paper's number of a refusal.
+pub fn number(why: Refusal) -> u8
+    ensures { λ r. ⌜ r ≡ number why ⌝ }
+{
+    match why {
+        Refusal::TooLong => 1,
+        Refusal::NoLexeme => 2,
+        Refusal::TooLarge => 3,
+        Refusal::NoProgram => 4,
+        Refusal::TooDeep => 5,
+        Refusal::Undeclared => 6,
+        Refusal::TooManyDeclared => 7,
+        Refusal::TooMuchCode => 8,
+    }
+}
 
 // The bytes that a run is made of.
 pub enum Such {

@@ -1,41 +1,41 @@
--- How the code writes lexemes: its enums and numbers for those of the definitions.
-use mathlib.Core.List.{List}
-use Prim.Native.Nat.{ℕ}
+-- How the code writes lexemes: its enums and numbers for those of the definitions, and the way back.
+use mathlib.Core.Path.{_≡_}
+use mathlib.Core.List.{List, [], _∷_}
+use mathlib.Core.Bool.{Bool, true, false}
+use Prim.Native.Nat.{ℕ, _+_, _-_, _≤_, _<_, min}
 use Prim.Native.Char.{code}
+use lib.Dec.{eqb, ltb}
+use lib.ListN.{length}
 use Rattle.base.specs.Answers.{Answer, given, refused}
-use Rattle.lexeme.specs.Lexemes.{Sign, plus, minus, Mul, times, over, Rel, less, greater, equal, Fixed, open-round, close-round, open-square, close-square, open-brace, close-brace, comma, dot, becomes, CALL, CLASS, DO, ERROR, FIELDS, IF, INIT, INT, METHOD, NOT, OBJ, PRINTI, PRINTLNS, PRINTS, PROCEDURE, READ, RETURNS, SUBCLASSOF, THEN, USING, WHILE, end, lit, name, class, string, sign, mul, rel, fixed, Placed, Next, lexeme, nothing}
+use Rattle.base.specs.Bytes.{part}
+use Rattle.lexeme.specs.Lexemes.{Sizes, Fixed, becomes, equals-sign, comma, dot, greater-sign, less-sign, plus-sign, minus-sign, star, slash, open-round, close-round, open-square, close-square, open-brace, close-brace, CALL, CLASS, DO, ERROR, FIELDS, IF, INIT, INT, METHOD, NOT, OBJ, PRINTI, PRINTLNS, PRINTS, PROCEDURE, READ, RETURNS, SUBCLASSOF, THEN, USING, WHILE, end, lit, name, class, string, fixed, Placed, Next, lexeme, nothing, next}
 use Rattle.lexeme.specs.Lexemes as lexemes
 use Rattle.lexeme.specs.declared.Kind.{Kind}
 use Rattle.lexeme.specs.declared.Kind.the-variants as kind
 use Rattle.lexeme.specs.declared.Lexeme.{Lexeme}
 use Rattle.lexeme.specs.declared.Found.{Found}
-use Rattle.lexeme.specs.declared.Found.the-variants.{Is, End, Refused}
+use Rattle.lexeme.specs.declared.Found.the-variants.{Is, Refused}
 
--- a symbol is its byte
-unfoldable pub sign-code : Sign → ℕ
-sign-code plus = code "+"
-sign-code minus = code "-"
-
-unfoldable pub mul-code : Mul → ℕ
-mul-code times = code "*"
-mul-code over = code "/"
-
-unfoldable pub rel-code : Rel → ℕ
-rel-code less = code "<"
-rel-code greater = code ">"
-rel-code equal = code "="
+-- ---- to the code
 
 -- a symbol's byte, the colon's for `:=`, a keyword's number in alphabetical order, and 0 for the end
 unfoldable pub code-of : Fixed → ℕ
+code-of becomes = code ":"
+code-of equals-sign = code "="
+code-of comma = code ","
+code-of dot = code "."
+code-of greater-sign = code ">"
+code-of less-sign = code "<"
+code-of plus-sign = code "+"
+code-of minus-sign = code "-"
+code-of star = code "*"
+code-of slash = code "/"
 code-of open-round = code "("
 code-of close-round = code ")"
 code-of open-square = code "["
 code-of close-square = code "]"
 code-of open-brace = code "{"
 code-of close-brace = code "}"
-code-of comma = code ","
-code-of dot = code "."
-code-of becomes = code ":"
 code-of CALL = 1
 code-of CLASS = 2
 code-of DO = 3
@@ -59,23 +59,78 @@ code-of USING = 20
 code-of WHILE = 21
 code-of end = 0
 
--- the letters of a word and the bytes of a string stand in the text
+-- the letters of a word and the bytes of a string stand in the text; of a literal beyond the code's numbers, the largest of them
 unfoldable pub kind-of : lexemes.Lexeme → Kind
-kind-of (lit n) = kind.Literal n
+kind-of (lit n) = kind.Literal (min n 4294967295)
 kind-of (name n) = kind.Name
 kind-of (class n) = kind.Class
 kind-of (string s) = kind.Str
-kind-of (sign s) = kind.Sign (sign-code s)
-kind-of (mul m) = kind.Mul (mul-code m)
-kind-of (rel r) = kind.Rel (rel-code r)
 kind-of (fixed f) = kind.Fixed (code-of f)
 
+-- nothing more is the end, which takes no byte
 unfoldable pub coded : Answer Next → Found
 coded (given (lexeme l e)) = Is (record { kind = kind-of (l .what); place = l .place; end = e })
-coded (given nothing) = End
-coded (refused n p) = Refused n p
+coded (given (nothing p)) = Is (record { kind = kind.Fixed (code-of end); place = p; end = p })
+coded (refused why p) = Refused why p
 
--- how a scan ends: at the text's end, or with its leftmost refusal of 2 and 3
-unfoldable pub scanned : Answer (List Placed) → Found
-scanned (given ls) = End
-scanned (refused n p) = Refused n p
+-- how a scan ends: with the text's end, or with its leftmost refusal of 2 and 3
+unfoldable pub scanned : List ℕ → Answer (List Placed) → Found
+scanned text (given ls) = Is (record { kind = kind.Fixed (code-of end); place = length text; end = length text })
+scanned text (refused why p) = Refused why p
+
+-- the number of a fixed lexeme; 255 is none
+unfoldable pub fixed-number : Kind → ℕ
+fixed-number (kind.Literal n) = 255
+fixed-number kind.Name = 255
+fixed-number kind.Class = 255
+fixed-number kind.Str = 255
+fixed-number (kind.Fixed f) = f
+
+-- whether a lexeme of this kind and of n bytes is too large
+unfoldable pub large : Sizes → Kind → ℕ → Bool
+large most (kind.Literal v) n = ltb (most .literal) v
+large most kind.Name n = ltb (most .word) n
+large most kind.Class n = ltb (most .word) n
+large most kind.Str n = ltb (most .string + 2) n
+large most (kind.Fixed f) n = false
+
+-- ---- and back
+
+unfoldable pub fixeds : List Fixed
+fixeds = becomes ∷ equals-sign ∷ comma ∷ dot ∷ greater-sign ∷ less-sign ∷ plus-sign ∷ minus-sign ∷ star ∷ slash ∷ open-round ∷ close-round ∷ open-square ∷ close-square ∷ open-brace ∷ close-brace ∷ CALL ∷ CLASS ∷ DO ∷ ERROR ∷ FIELDS ∷ IF ∷ INIT ∷ INT ∷ METHOD ∷ NOT ∷ OBJ ∷ PRINTI ∷ PRINTLNS ∷ PRINTS ∷ PROCEDURE ∷ READ ∷ RETURNS ∷ SUBCLASSOF ∷ THEN ∷ USING ∷ WHILE ∷ []
+
+unfoldable pub fixed-in : List Fixed → ℕ → Fixed
+fixed-in [] n = end
+fixed-in (f ∷ fs) n = elim (eqb n (code-of f)) [ true ↦ f | false ↦ fixed-in fs n ]
+
+unfoldable pub fixed-of : ℕ → Fixed
+fixed-of n = fixed-in fixeds n
+
+-- what the code's lexeme of a kind, from the place p up to e, is in the text
+unfoldable pub what-of : List ℕ → ℕ → ℕ → Kind → lexemes.Lexeme
+what-of text p e (kind.Literal n) = lit n
+what-of text p e kind.Name = name (record { letters = part text p e; place = p })
+what-of text p e kind.Class = class (record { letters = part text p e; place = p })
+what-of text p e kind.Str = string (record { inside = part text (p + 1) (e - 1); place = p + 1 })
+what-of text p e (kind.Fixed n) = fixed (fixed-of n)
+
+unfoldable pub told : List ℕ → Lexeme → lexemes.Lexeme
+told text l = what-of text (l .place) (l .end) (l .kind)
+
+abbrev pub placed : List ℕ → Lexeme → Placed
+placed text l = record { place = l .place; what = told text l }
+
+abbrev pub Ends : Lexeme → Type 0
+Ends l = l .kind ≡ kind.Fixed (code-of end)
+
+-- the code's lexeme stands in the text; only the end takes no byte
+pub record Stands (text : List ℕ) (l : Lexeme) : Type 0 where
+  pub order : l .place ≤ l .end
+  pub within : l .end ≤ length text
+  pub some : (Ends l → ⊥) → l .place < l .end
+  pub known : kind-of (told text l) ≡ l .kind
+
+-- ls are the lexemes of the text from the code's lexeme l on
+pub data Ahead (text : List ℕ) : Lexeme → List Placed → Type 0 where
+  last : (l : Lexeme) → Ends l → Ahead text l (placed text l ∷ [])
+  more : (l m : Lexeme) (ls : List Placed) → (Ends l → ⊥) → Is m ≡ coded (next text (l .end)) → Ahead text m ls → Ahead text l (placed text l ∷ ls)

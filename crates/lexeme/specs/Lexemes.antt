@@ -6,6 +6,7 @@ use Prim.Native.Char.{code}
 use lib.Dec.{leb, ltb, eqb}
 use lib.ListN.{length, drop}
 pub use Rattle.limits.specs.Limits.{Sizes}
+use Rattle.base.specs.declared.Refusal.the-variants.{NoLexeme, TooLarge}
 use Rattle.base.specs.Answers.{Answer, given, refused, pass}
 use Rattle.base.specs.Bytes.{bytes, separator, small, letter, digit, letter-or-digit, no-quote, run, all, same, value}
 
@@ -21,18 +22,10 @@ pub record Quoted : Type 0 where
   pub inside : List ℕ
   pub place : ℕ
 
-pub data Sign : Type 0 where
-  plus minus : Sign
-
-pub data Mul : Type 0 where
-  times over : Mul
-
-pub data Rel : Type 0 where
-  less greater equal : Rel
-
--- the lexemes that are always written the same: brackets, comma, dot, `:=` and the 21 keywords; `end` stands after the last lexeme, at the text's length
+-- the lexemes that are always written the same: `:=`, the fifteen characters and the 21 keywords; `end` stands after the last lexeme, at the text's length
 pub data Fixed : Type 0 where
-  open-round close-round open-square close-square open-brace close-brace comma dot becomes : Fixed
+  becomes equals-sign comma dot greater-sign less-sign plus-sign minus-sign star slash : Fixed
+  open-round close-round open-square close-square open-brace close-brace : Fixed
   CALL CLASS DO ERROR FIELDS IF INIT INT METHOD NOT OBJ PRINTI PRINTLNS PRINTS PROCEDURE READ RETURNS SUBCLASSOF THEN USING WHILE : Fixed
   end : Fixed
 
@@ -41,9 +34,6 @@ pub data Lexeme : Type 0 where
   name : Name → Lexeme
   class : Name → Lexeme
   string : Quoted → Lexeme
-  sign : Sign → Lexeme
-  mul : Mul → Lexeme
-  rel : Rel → Lexeme
   fixed : Fixed → Lexeme
 
 -- a lexeme and the place of its first byte
@@ -51,10 +41,10 @@ pub record Placed : Type 0 where
   pub place : ℕ
   pub what : Lexeme
 
--- what stands next in a text: a lexeme, with the place after it, or nothing more
+-- what stands next in a text: a lexeme, with the place after it, or nothing more, with the place where the text ends
 pub data Next : Type 0 where
   lexeme : Placed → ℕ → Next
-  nothing : Next
+  nothing : ℕ → Next
 
 unfoldable pub found : ℕ → Lexeme → ℕ → Answer Next
 found p l e = given (lexeme (record { place = p; what = l }) e)
@@ -100,94 +90,96 @@ unfoldable pub starts-small : List ℕ → Bool
 starts-small [] = false
 starts-small (b ∷ w) = small b
 
--- a letter word at the place p, with the most letters that it may have
-unfoldable pub letter-word : ℕ → ℕ → List ℕ → Answer Next
-letter-word most p w =
-    cond (ltb most (length w)) (refused 3 p)
-    (found p (cond (starts-small w) (name (record { letters = w; place = p })) (capital-word keywords p w)) (p + length w))
-
--- a digit word at the place p, with the most that it may be worth
-unfoldable pub digit-word : ℕ → ℕ → List ℕ → Answer Next
-digit-word most p w =
-    cond (ltb most (value 0 w)) (refused 3 p)
-    (found p (lit (value 0 w)) (p + length w))
+-- a letter word at the place p: a symbol name if it starts small
+unfoldable pub letter-word : ℕ → List ℕ → Lexeme
+letter-word p w = cond (starts-small w) (name (record { letters = w; place = p })) (capital-word keywords p w)
 
 -- a word at the place p: all letters, or all digits; a mixed word is refused
-unfoldable pub word : Sizes → ℕ → List ℕ → Answer Next
-word most p w =
-    cond (all letter w) (letter-word (most .word) p w)
-    (cond (all digit w) (digit-word (most .literal) p w)
-    (refused 2 p))
+unfoldable pub word : ℕ → List ℕ → Answer Next
+word p w =
+    cond (all letter w) (found p (letter-word p w) (p + length w))
+    (cond (all digit w) (found p (lit (value 0 w)) (p + length w))
+    (refused NoLexeme p))
 
 -- ---- strings and symbols
 
--- a string whose opening quote is at p, where s follows the quote, with the most bytes that may stand between its quotes
-unfoldable pub string-at : ℕ → ℕ → List ℕ → Answer Next
-string-at most p s =
+-- a string whose opening quote is at p, where s follows the quote
+unfoldable pub string-at : ℕ → List ℕ → Answer Next
+string-at p s =
     let inside = run no-quote s in
-    cond (leb (length s) (length inside)) (refused 2 p)
-    (cond (ltb most (length inside)) (refused 3 p)
-    (found p (string (record { inside = inside; place = p + 1 })) (p + length inside + 2)))
+    cond (leb (length s) (length inside)) (refused NoLexeme p)
+    (found p (string (record { inside = inside; place = p + 1 })) (p + length inside + 2))
 
 pub record Symbol : Type 0 where
   pub byte : ℕ
-  pub means : Lexeme
+  pub means : Fixed
 
 -- the fifteen characters
 unfoldable pub symbols : List Symbol
 symbols =
-    record { byte = code "="; means = rel equal }
-    ∷ record { byte = code ","; means = fixed comma }
-    ∷ record { byte = code "."; means = fixed dot }
-    ∷ record { byte = code ">"; means = rel greater }
-    ∷ record { byte = code "<"; means = rel less }
-    ∷ record { byte = code "+"; means = sign plus }
-    ∷ record { byte = code "-"; means = sign minus }
-    ∷ record { byte = code "*"; means = mul times }
-    ∷ record { byte = code "/"; means = mul over }
-    ∷ record { byte = code "("; means = fixed open-round }
-    ∷ record { byte = code ")"; means = fixed close-round }
-    ∷ record { byte = code "["; means = fixed open-square }
-    ∷ record { byte = code "]"; means = fixed close-square }
-    ∷ record { byte = code "{"; means = fixed open-brace }
-    ∷ record { byte = code "}"; means = fixed close-brace }
+    record { byte = code "="; means = equals-sign }
+    ∷ record { byte = code ","; means = comma }
+    ∷ record { byte = code "."; means = dot }
+    ∷ record { byte = code ">"; means = greater-sign }
+    ∷ record { byte = code "<"; means = less-sign }
+    ∷ record { byte = code "+"; means = plus-sign }
+    ∷ record { byte = code "-"; means = minus-sign }
+    ∷ record { byte = code "*"; means = star }
+    ∷ record { byte = code "/"; means = slash }
+    ∷ record { byte = code "("; means = open-round }
+    ∷ record { byte = code ")"; means = close-round }
+    ∷ record { byte = code "["; means = open-square }
+    ∷ record { byte = code "]"; means = close-square }
+    ∷ record { byte = code "{"; means = open-brace }
+    ∷ record { byte = code "}"; means = close-brace }
     ∷ []
 
 -- any other byte is no lexeme
 unfoldable pub symbol : List Symbol → ℕ → ℕ → Answer Next
-symbol [] p b = refused 2 p
-symbol (y ∷ ys) p b = elim (eqb b (y .byte)) [ true ↦ found p (y .means) (p + 1) | false ↦ symbol ys p b ]
+symbol [] p b = refused NoLexeme p
+symbol (y ∷ ys) p b = elim (eqb b (y .byte)) [ true ↦ found p (fixed (y .means)) (p + 1) | false ↦ symbol ys p b ]
 
 -- a `:` without `=` is no lexeme
 unfoldable pub colon : ℕ → List ℕ → Answer Next
-colon p [] = refused 2 p
-colon p (b ∷ s) = cond (eqb b 61) (found p (fixed becomes) (p + 2)) (refused 2 p)
+colon p [] = refused NoLexeme p
+colon p (b ∷ s) = cond (eqb b 61) (found p (fixed becomes) (p + 2)) (refused NoLexeme p)
 
--- ---- a whole text
+-- ---- what stands next
 
-module _ (most : Sizes) where
-  -- what begins at the place p, where no separator stands
-  unfoldable pub here : ℕ → List ℕ → Answer Next
-  here p [] = given nothing
-  here p (b ∷ s) =
-      cond (letter-or-digit b) (word most p (run letter-or-digit (b ∷ s)))
-      (cond (eqb b 34) (string-at (most .string) p s)
-      (cond (eqb b 58) (colon p s)
-      (symbol symbols p b)))
+-- what begins at the place p, where no separator stands
+unfoldable pub here : ℕ → List ℕ → Answer Next
+here p [] = given (nothing p)
+here p (b ∷ s) =
+    cond (letter-or-digit b) (word p (run letter-or-digit (b ∷ s)))
+    (cond (eqb b 34) (string-at p s)
+    (cond (eqb b 58) (colon p s)
+    (symbol symbols p b)))
 
-  -- the first lexeme at or after a place
-  unfoldable pub next : List ℕ → ℕ → Answer Next
-  next text at = let p = at + length (run separator (drop at text)) in here p (drop p text)
+-- the first lexeme at or after a place
+unfoldable pub next : List ℕ → ℕ → Answer Next
+next text at = let p = at + length (run separator (drop at text)) in here p (drop p text)
 
 -- ---- all lexemes of a text, or its leftmost refusal of 2 and 3
 
+-- a lexeme that is too large: a letter word, a string or a literal beyond its limit. No keyword is.
+unfoldable pub too-large : Sizes → Lexeme → Bool
+too-large most (lit n) = ltb (most .literal) n
+too-large most (name x) = ltb (most .word) (length (x .letters))
+too-large most (class x) = ltb (most .word) (length (x .letters))
+too-large most (string q) = ltb (most .string) (length (q .inside))
+too-large most (fixed f) = false
+
+-- such a lexeme is refused
+unfoldable pub sized : Sizes → Placed → Answer (Unit {0})
+sized most l = cond (too-large most (l .what)) (refused TooLarge (l .place)) (given tt)
+
 module _ (most : Sizes) (text : List ℕ) where
-  -- from a place on, with more fuel than bytes left
+  -- from a place on, with more fuel than bytes left; what is no lexeme is refused before its size is asked
   unfoldable pub lexemes-from : ℕ → ℕ → Answer (List Placed)
   lexemes-from zero at = given []
-  lexemes-from (suc fuel) at = pass (next most text at) λ n. elim n [
-    | lexeme l e ↦ pass (lexemes-from fuel e) (λ ls. given (l ∷ ls))
-    | nothing ↦ given (record { place = length text; what = fixed end } ∷ [])
+  lexemes-from (suc fuel) at = pass (next text at) λ n. elim n [
+    | lexeme l e ↦ pass (sized most l) λ _. pass (lexemes-from fuel e) (λ ls. given (l ∷ ls))
+    | nothing p ↦ given (record { place = p; what = fixed end } ∷ [])
   ]
 
   unfoldable pub lexemes : Answer (List Placed)

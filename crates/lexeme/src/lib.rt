@@ -2,21 +2,19 @@
 ghost use mathlib.Core.Path.{_≡_};
 ghost use Prim.Native.Nat.{ℕ};
 ghost use lib.ListN.{drop};
-ghost use Rattle.lexeme.specs.Lexemes.{keywords, capital-word, starts-small};
-ghost use Rattle.lexeme.specs.Coded.{kind-of};
+ghost use Rattle.lexeme.specs.Lexemes.{keywords, letter-word, capital-word, starts-small};
+ghost use Rattle.lexeme.specs.Coded.{kind-of, fixed-number};
+use base::Refusal;
 use base::is_same;
 
 pub mod fixed;
 
-// What a lexeme is. A symbol is its byte, `:=` that of its colon, and a keyword its number in alphabetical order, from 1: specs/Coded.antt has the table.
+// What a lexeme is. A literal has its value, or the largest number where that is beyond it. Of the fixed ones a symbol is its byte, `:=` that of its colon, and a keyword its number in alphabetical order, from 1; the end of the text is one too, 0: specs/Coded.antt has the table.
 pub enum Kind {
     Literal(u32),
     Name,
     Class,
     Str,
-    Sign(u8),
-    Mul(u8),
-    Rel(u8),
     Fixed(u8),
 }
 
@@ -27,15 +25,34 @@ pub struct Lexeme {
     pub end: usize,
 }
 
-// What stands next in a text: a lexeme, nothing more, or the number and the place of a refusal.
+// What stands next in a text: a lexeme, which may be the end, or why and where it is refused.
 pub enum Found {
     Is(Lexeme),
-    End,
-    Refused(u8, usize),
+    Refused(Refusal, usize),
+}
+
+// The number of a fixed lexeme; 255 is none.
+pub fn fixed_of(kind: Kind) -> u8
+    ensures { λ r. ⌜ r ≡ fixed-number kind ⌝ }
+{
+    match kind {
+        Kind::Fixed(f) => f,
+        _ => 255,
+    }
+}
+
+// A letter word: a name if it starts small, else a keyword or a class name.
+pub fn letter_word(word: &[u8]) -> Kind
+    ensures { λ r. ⌜ ((p : ℕ) → r ≡ kind-of (letter-word p (now (word .entry)))) ⌝ }
+{
+    if starts_small(word) {
+        return Kind::Name;
+    }
+    capital_word(word)
 }
 
 // A word that starts with a capital: a keyword, or a class name.
-pub fn capital_word(word: &[u8]) -> Kind
+fn capital_word(word: &[u8]) -> Kind
     ensures { λ r. ⌜ ((p : ℕ) → r ≡ kind-of (capital-word keywords p (now (word .entry)))) ⌝ }
 {
     if is_same(word, b"CALL") {
@@ -111,7 +128,7 @@ fn later_capital_word(word: &[u8]) -> Kind
     Kind::Class
 }
 
-pub fn starts_small(word: &[u8]) -> bool
+fn starts_small(word: &[u8]) -> bool
     ensures { λ r. ⌜ r ≡ starts-small (now (word .entry)) ⌝ }
 {
     if word.len() == 0 {

@@ -1,14 +1,17 @@
-// The reader of lexemes: the next one of a text, and the refusals 1, 2 and 3.
+// The reader of lexemes: the next one of a text, which knows no limits, and the scan of a whole text, which tests them: refusals 1, 2 and 3.
 ghost use mathlib.Core.Path.{_≡_};
-ghost use Prim.Native.Nat.{_+_, _-_, _<_};
+ghost use Prim.Native.Nat.{_+_, _-_, _≤_, _<_, min};
 ghost use lib.Dec.{ltb};
 ghost use lib.ListN.{length, drop};
-ghost use Rattle.lexeme.specs.Lexemes.{letter-word, digit-word, word, string-at, symbols, symbol, colon, next, lexemes};
-ghost use Rattle.lexeme.specs.Coded.{coded, scanned};
+ghost use Rattle.base.specs.Bytes.{value};
+ghost use Rattle.lexeme.specs.Lexemes.{word, string-at, symbols, symbol, colon, next, lexemes};
+ghost use Rattle.lexeme.specs.Coded.{coded, scanned, large};
+use base::Refusal;
 use base::Such;
 use lexeme::Found;
 use lexeme::Kind;
 use lexeme::Lexeme;
+use lexeme::fixed;
 use limits::Limits;
 
 // Whether a text is too long: refusal 1.
@@ -16,29 +19,6 @@ pub fn too_long(text: &[u8]) -> bool
     ensures { λ r. do ⌜ r ≡ ltb (← ⟦Limits::TEXT⟧ .entry) (length (now (text .entry))) ⌝ }
 {
     Limits::TEXT < text.len()
-}
-
-// A letter word from the place p up to e.
-fn letter_word(word: &[u8], p: usize, e: usize) -> Found
-    requires { ⌜ e ≡ p + length (now word) ⌝ }
-    ensures { λ r. do ⌜ r ≡ coded (letter-word (← ⟦Limits::WORD⟧ .entry) p (now (word .entry))) ⌝ }
-{
-    if Limits::WORD < word.len() {
-        return Found::Refused(3, p);
-    }
-    if lexeme::starts_small(word) {
-        return Found::Is(Lexeme {
-            kind: Kind::Name,
-            place: p,
-            end: e,
-        });
-    }
-    let kind = lexeme::capital_word(word);
-    Found::Is(Lexeme {
-        kind: kind,
-        place: p,
-        end: e,
-    })
 }
 
 // What a digit adds to the value of its word.
@@ -51,52 +31,52 @@ fn worth(b: u8) -> u64
     (b - 48) as u64
 }
 
-// A digit word from the place p up to e.
-fn digit_word(word: &[u8], p: usize, e: usize) -> Found
-    requires { ⌜ e ≡ p + length (now word) ⌝ }
-    ensures { λ r. do ⌜ r ≡ coded (digit-word (← ⟦Limits::LITERAL⟧ .entry) p (now (word .entry))) ⌝ }
+// The value of a digit word, or the largest number where it is beyond that.
+fn value_of(word: &[u8]) -> u32
+    ensures { λ r. ⌜ r ≡ min (value 0 (now (word .entry))) 4294967295 ⌝ }
 {
     let mut value: u64 = 0;
     let mut i = 0;
     while i < word.len() {
         value = value * 10 + worth(word[i]);
-        if (Limits::LITERAL as u64) < value {
-            return Found::Refused(3, p);
+        if 4294967295 < value {
+            return 4294967295;
         }
         i += 1;
     }
-    Found::Is(Lexeme {
-        kind: Kind::Literal(value as u32),
-        place: p,
-        end: e,
-    })
+    value as u32
 }
 
 // A word from the place p up to e: all letters, or all digits; a mixed word is refused.
 fn word_at(whole: &[u8], p: usize, e: usize) -> Found
     requires { ⌜ e ≡ p + length (now whole) ⌝ }
-    ensures { λ r. do ⌜ r ≡ coded (word (record { word = (← ⟦Limits::WORD⟧ .entry); string = (← ⟦Limits::STRING⟧ .entry); literal = (← ⟦Limits::LITERAL⟧ .entry) }) p (now (whole .entry))) ⌝ }
+    ensures { λ r. ⌜ r ≡ coded (word p (now (whole .entry))) ⌝ }
 {
     if base::is_all(whole, Such::Letter) {
-        return letter_word(whole, p, e);
+        return Found::Is(Lexeme {
+            kind: lexeme::letter_word(whole),
+            place: p,
+            end: e,
+        });
     }
     if base::is_all(whole, Such::Digit) {
-        return digit_word(whole, p, e);
+        return Found::Is(Lexeme {
+            kind: Kind::Literal(value_of(whole)),
+            place: p,
+            end: e,
+        });
     }
-    Found::Refused(2, p)
+    Found::Refused(Refusal::NoLexeme, p)
 }
 
 // A string whose opening quote is at p.
 fn string_at(text: &[u8], p: usize) -> Found
     requires { ⌜ p < length (now text) ⌝ }
-    ensures { λ r. do ⌜ r ≡ coded (string-at (← ⟦Limits::STRING⟧ .entry) p (drop (p + 1) (now (text .entry)))) ⌝ }
+    ensures { λ r. ⌜ r ≡ coded (string-at p (drop (p + 1) (now (text .entry)))) ⌝ }
 {
     let e = base::run_end(text, p + 1, Such::NoQuote);
     if text.len() <= e {
-        return Found::Refused(2, p);
-    }
-    if Limits::STRING < e - (p + 1) {
-        return Found::Refused(3, p);
+        return Found::Refused(Refusal::NoLexeme, p);
     }
     Found::Is(Lexeme {
         kind: Kind::Str,
@@ -120,7 +100,7 @@ fn colon_at(text: &[u8], p: usize) -> Found
             });
         }
     }
-    Found::Refused(2, p)
+    Found::Refused(Refusal::NoLexeme, p)
 }
 
 // A byte at p that is one of the fifteen characters, or no lexeme; q is the place after it.
@@ -129,37 +109,40 @@ fn symbol_at(b: u8, p: usize, q: usize) -> Found
     ensures { λ r. ⌜ r ≡ coded (symbol symbols p b) ⌝ }
 {
     match b {
-        b'+' | b'-' => Found::Is(Lexeme {
-            kind: Kind::Sign(b),
-            place: p,
-            end: q,
-        }),
-        b'*' | b'/' => Found::Is(Lexeme {
-            kind: Kind::Mul(b),
-            place: p,
-            end: q,
-        }),
-        b'<' | b'>' | b'=' => Found::Is(Lexeme {
-            kind: Kind::Rel(b),
-            place: p,
-            end: q,
-        }),
-        b'(' | b')' | b'[' | b']' | b'{' | b'}' | b',' | b'.' => Found::Is(Lexeme {
+        b'='
+        | b','
+        | b'.'
+        | b'>'
+        | b'<'
+        | b'+'
+        | b'-'
+        | b'*'
+        | b'/'
+        | b'('
+        | b')'
+        | b'['
+        | b']'
+        | b'{'
+        | b'}' => Found::Is(Lexeme {
             kind: Kind::Fixed(b),
             place: p,
             end: q,
         }),
-        _ => Found::Refused(2, p),
+        _ => Found::Refused(Refusal::NoLexeme, p),
     }
 }
 
-// The first lexeme at or after a place.
+// The first lexeme at or after a place; where there is none, the end.
 pub fn next(text: &[u8], at: usize) -> Found
-    ensures { λ r. do ⌜ r ≡ coded (next (record { word = (← ⟦Limits::WORD⟧ .entry); string = (← ⟦Limits::STRING⟧ .entry); literal = (← ⟦Limits::LITERAL⟧ .entry) }) (now (text .entry)) at) ⌝ }
+    ensures { λ r. ⌜ r ≡ coded (next (now (text .entry)) at) ⌝ }
 {
     let p = base::run_end(text, at, Such::Separator);
     if text.len() <= p {
-        return Found::End;
+        return Found::Is(Lexeme {
+            kind: Kind::Fixed(fixed::END),
+            place: p,
+            end: p,
+        });
     }
     let b = text[p];
     if base::is_such(Such::LetterOrDigit, b) {
@@ -173,16 +156,39 @@ pub fn next(text: &[u8], at: usize) -> Found
     }
 }
 
-// The leftmost refusal of 2 and 3 of a whole text, or the end where there is none.
+// Whether a lexeme is too large: refusal 3.
+fn is_too_large(l: Lexeme) -> bool
+    requires { ⌜ l .place ≤ l .end ⌝ }
+    ensures { λ r. do ⌜ r ≡ large (record { word = (← ⟦Limits::WORD⟧ .entry); string = (← ⟦Limits::STRING⟧ .entry); literal = (← ⟦Limits::LITERAL⟧ .entry) }) (l .kind) (l .end - l .place) ⌝ }
+{
+    let n = l.end - l.place;
+    let kind = l.kind;
+    match kind {
+        Kind::Literal(v) => Limits::LITERAL < v,
+        Kind::Name => Limits::WORD < n,
+        Kind::Class => Limits::WORD < n,
+        Kind::Str => Limits::STRING + 2 < n,
+        Kind::Fixed(_) => false,
+    }
+}
+
+// The end of a whole text, or its leftmost refusal of 2 and 3.
 pub fn scan(text: &[u8]) -> Found
-    ensures { λ r. do ⌜ r ≡ scanned (lexemes (record { word = (← ⟦Limits::WORD⟧ .entry); string = (← ⟦Limits::STRING⟧ .entry); literal = (← ⟦Limits::LITERAL⟧ .entry) }) (now (text .entry))) ⌝ }
+    ensures { λ r. do ⌜ r ≡ scanned (now (text .entry)) (lexemes (record { word = (← ⟦Limits::WORD⟧ .entry); string = (← ⟦Limits::STRING⟧ .entry); literal = (← ⟦Limits::LITERAL⟧ .entry) }) (now (text .entry))) ⌝ }
 {
     let mut at = 0;
     loop {
         let found = next(text, at);
-        let Found::Is(lexeme) = found else {
+        let Found::Is(l) = found else {
             return found;
         };
-        at = lexeme.end;
+        let kind = l.kind;
+        if is_too_large(l) {
+            return Found::Refused(Refusal::TooLarge, l.place);
+        }
+        if lexeme::fixed_of(kind) == fixed::END {
+            return found;
+        }
+        at = l.end;
     }
 }
