@@ -6,9 +6,10 @@ use Prim.Native.Nat.{ℕ, zero, suc}
 use lib.Dec.{ltb, eqb}
 use Rattle.base.specs.Answers.{Answer, given, refused}
 use Rattle.lexeme.specs.Coded.{code-of}
-use Rattle.lexeme.specs.Lexemes.{Name, Quoted, Sign, Mul, Rel, Fixed, Lexeme, Placed, lit, name, class, string, sign, mul, rel, fixed}
-use Rattle.lexeme.specs.Lexemes.{open-round, close-round, open-brace, close-brace, becomes, DO, ERROR, IF, INT, NOT, PRINTI, PRINTLNS, PRINTS, READ, THEN, WHILE, end}
-use Rattle.sentence.specs.Sentences.{Kind, Sen, factor, term, expression, condition, command, commands, literal, variable, bracket, first, multiply, unsigned, signed, add, negated, compare, print, print-line, print-string, declare, input, assign, error, while, when, block, single, then}
+use Rattle.base.specs.declared.Refusal.the-variants.{NoProgram, TooDeep}
+use Rattle.lexeme.specs.Lexemes.{Name, Quoted, Fixed, Lexeme, Placed, lit, name, class, string, fixed}
+use Rattle.lexeme.specs.Lexemes.{plus-sign, minus-sign, star, slash, less-sign, greater-sign, equals-sign, open-round, close-round, open-brace, close-brace, becomes, DO, ERROR, IF, INT, NOT, PRINTI, PRINTLNS, PRINTS, READ, THEN, WHILE, end}
+use Rattle.sentence.specs.Sentences.{Sign, plus, minus, Mul, times, over, Rel, less, greater, equal, Kind, Sen, factor, term, expression, condition, command, commands, literal, variable, bracket, first, multiply, unsigned, signed, add, negated, compare, print, print-line, print-string, declare, input, assign, error, while, when, block, single, then}
 
 -- ---- states
 
@@ -78,9 +79,6 @@ is w (lit n) = false
 is w (name x) = false
 is w (class x) = false
 is w (string q) = false
-is w (sign s) = false
-is w (mul o) = false
-is w (rel r) = false
 is w (fixed v) = eqb (code-of v) (code-of w)
 
 unfoldable pub on : Fixed → Lexeme → State → State → State
@@ -91,9 +89,6 @@ on-lit (lit n) such other = such n
 on-lit (name x) such other = other
 on-lit (class x) such other = other
 on-lit (string q) such other = other
-on-lit (sign s) such other = other
-on-lit (mul o) such other = other
-on-lit (rel r) such other = other
 on-lit (fixed v) such other = other
 
 unfoldable pub on-name : Lexeme → (Name → State) → State → State
@@ -101,9 +96,6 @@ on-name (lit n) such other = other
 on-name (name x) such other = such x
 on-name (class x) such other = other
 on-name (string q) such other = other
-on-name (sign s) such other = other
-on-name (mul o) such other = other
-on-name (rel r) such other = other
 on-name (fixed v) such other = other
 
 unfoldable pub on-string : Lexeme → (Quoted → State) → State → State
@@ -111,40 +103,16 @@ on-string (lit n) such other = other
 on-string (name x) such other = other
 on-string (class x) such other = other
 on-string (string q) such other = such q
-on-string (sign s) such other = other
-on-string (mul o) such other = other
-on-string (rel r) such other = other
 on-string (fixed v) such other = other
 
 unfoldable pub on-sign : Lexeme → (Sign → State) → State → State
-on-sign (lit n) such other = other
-on-sign (name x) such other = other
-on-sign (class x) such other = other
-on-sign (string q) such other = other
-on-sign (sign s) such other = such s
-on-sign (mul o) such other = other
-on-sign (rel r) such other = other
-on-sign (fixed v) such other = other
+on-sign l such other = on plus-sign l (such plus) (on minus-sign l (such minus) other)
 
 unfoldable pub on-mul : Lexeme → (Mul → State) → State → State
-on-mul (lit n) such other = other
-on-mul (name x) such other = other
-on-mul (class x) such other = other
-on-mul (string q) such other = other
-on-mul (sign s) such other = other
-on-mul (mul o) such other = such o
-on-mul (rel r) such other = other
-on-mul (fixed v) such other = other
+on-mul l such other = on star l (such times) (on slash l (such over) other)
 
 unfoldable pub on-rel : Lexeme → (Rel → State) → State → State
-on-rel (lit n) such other = other
-on-rel (name x) such other = other
-on-rel (class x) such other = other
-on-rel (string q) such other = other
-on-rel (sign s) such other = other
-on-rel (mul o) such other = other
-on-rel (rel r) such other = such r
-on-rel (fixed v) such other = other
+on-rel l such other = on less-sign l (such less) (on greater-sign l (such greater) (on equals-sign l (such equal) other))
 
 -- ---- where a construct is wanted
 
@@ -271,11 +239,11 @@ verdict nowhere = begins-none
 module _ (limit : ℕ) where
   -- the lexemes from a state on; the last is the end, which only a whole Program passes
   unfoldable pub read-from : State → List Placed → Answer (Sen Name command)
-  read-from s [] = elim (verdict s) [ goes-on d ↦ refused 4 0 | is-whole m ↦ given m | begins-none ↦ refused 4 0 ]
+  read-from s [] = elim (verdict s) [ goes-on d ↦ refused NoProgram 0 | is-whole m ↦ given m | begins-none ↦ refused NoProgram 0 ]
   read-from s (l ∷ ls) = elim (verdict (step s (l .what))) [
-    | goes-on d ↦ elim (ltb limit d) [ true ↦ refused 5 (l .place) | false ↦ read-from (step s (l .what)) ls ]
+    | goes-on d ↦ elim (ltb limit d) [ true ↦ refused TooDeep (l .place) | false ↦ read-from (step s (l .what)) ls ]
     | is-whole m ↦ read-from (whole m) ls
-    | begins-none ↦ refused 4 (l .place)
+    | begins-none ↦ refused NoProgram (l .place)
   ]
 
   unfoldable pub read : List Placed → Answer (Sen Name command)

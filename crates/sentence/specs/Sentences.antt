@@ -1,8 +1,31 @@
 -- Document 01, "Sentences": the constructs as trees, how each is spelled, and the nestings that it opens.
 use mathlib.Core.List.{List, [], _∷_, _++_}
 use Prim.Native.Nat.{ℕ, suc}
-use Rattle.lexeme.specs.Lexemes.{Name, Quoted, Sign, Mul, Rel, Lexeme, lit, name, string, sign, mul, rel, fixed}
-use Rattle.lexeme.specs.Lexemes.{open-round, close-round, open-brace, close-brace, becomes, DO, ERROR, IF, INT, NOT, PRINTI, PRINTLNS, PRINTS, READ, THEN, WHILE}
+use Rattle.lexeme.specs.Lexemes.{Name, Quoted, Lexeme, lit, name, string, fixed}
+use Rattle.lexeme.specs.Lexemes.{plus-sign, minus-sign, star, slash, less-sign, greater-sign, equals-sign, open-round, close-round, open-brace, close-brace, becomes, DO, ERROR, IF, INT, NOT, PRINTI, PRINTLNS, PRINTS, READ, THEN, WHILE}
+
+-- the signs, `*` and `/`, and the relations
+pub data Sign : Type 0 where
+  plus minus : Sign
+
+pub data Mul : Type 0 where
+  times over : Mul
+
+pub data Rel : Type 0 where
+  less greater equal : Rel
+
+unfoldable pub sign : Sign → Lexeme
+sign plus = fixed plus-sign
+sign minus = fixed minus-sign
+
+unfoldable pub mul : Mul → Lexeme
+mul times = fixed star
+mul over = fixed slash
+
+unfoldable pub rel : Rel → Lexeme
+rel less = fixed less-sign
+rel greater = fixed greater-sign
+rel equal = fixed equals-sign
 
 -- `commands` is the inside of a block
 pub data Kind : Type 0 where
