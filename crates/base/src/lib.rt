@@ -1,9 +1,9 @@
 // Bytes, their classes, and comparing them; refusals and their numbers; and numbers set to 0.
 ghost use mathlib.Core.Path.{_≡_};
-ghost use Prim.Native.Nat.{_+_};
+ghost use Prim.Native.Nat.{_+_, min};
 ghost use lib.IntN.{pos};
 ghost use lib.ListN.{length, drop, replicate};
-ghost use Rattle.base.specs.Bytes.{separator, letter, digit, run, all, same};
+ghost use Rattle.base.specs.Bytes.{separator, letter, digit, run, all, same, part};
 ghost use Rattle.base.specs.Kinds.{such};
 ghost use Rattle.base.specs.Answers.{number};
 
@@ -101,6 +101,23 @@ pub fn is_all(word: &[u8], kind: Such) -> bool
     ensures { λ r. ⌜ r ≡ all (such kind) (now (word .entry)) ⌝ }
 {
     run_end(word, 0, kind) == word.len()
+}
+
+fn smaller(a: usize, b: usize) -> usize
+    ensures { λ r. ⌜ r ≡ min a b ⌝ }
+{
+    if a < b { a } else { b }
+}
+
+// The bytes from the place p up to e, as far as the text has them.
+pub fn part(text: &[u8], p: usize, e: usize) -> &[u8]
+    ensures { λ r. ⌜ now r ≡ part (now (text .entry)) p e ⌝ }
+{
+    let end = smaller(e, text.len());
+    if end <= p {
+        return &text[0..0];
+    }
+    &text[p..end]
 }
 
 // Whether two words are equal byte for byte.

@@ -3,23 +3,33 @@ use mathlib.Core.List.{List, [], _∷_}
 use mathlib.Core.Bool.{true, false, cond}
 use Prim.Native.Nat.{ℕ, suc}
 use lib.Dec.{ltb}
+use Rattle.base.specs.declared.Refusal.the-variants.{Undeclared, TooManyDeclared}
 use Rattle.base.specs.Answers.{Answer, given, refused, pass}
 use Rattle.base.specs.Bytes.{same}
 use Rattle.lexeme.specs.Lexemes.{Name}
 use Rattle.sentence.specs.Sentences.{Kind, Sen, command, literal, variable, bracket, first, multiply, unsigned, signed, add, negated, compare, print, print-line, print-string, declare, input, assign, error, while, when, block, single, then}
 
--- a declaration: its letters and its cell
+-- a declaration: its letters, its cell, and the block that it stands in: how many are open there
 pub record Declaration : Type 0 where
   pub letters : List ℕ
   pub cell : ℕ
+  pub block : ℕ
 
--- the declarations still visible, the latest first, and how many the text has had so far
+-- what is known at a place of a text
 pub record Scope : Type 0 where
+  -- the declarations still visible, the latest first
   pub visible : List Declaration
+  -- how many the text has had so far, which is what refusal 7 counts
   pub declared : ℕ
+  -- the cell that the next one gets
+  pub next-cell : ℕ
+  -- how many cells there are so far
+  pub cells : ℕ
+  -- how many blocks are open
+  pub blocks : ℕ
 
 abbrev pub nothing-declared : Scope
-nothing-declared = record { visible = []; declared = 0 }
+nothing-declared = record { visible = []; declared = 0; next-cell = 0; cells = 0; blocks = 0 }
 
 -- what is worked out in a scope, with the scope after it
 pub record Known (A : Type 0) : Type 0 where
@@ -38,23 +48,34 @@ give a = λ s. given (record { what = a; scope = s })
 
 -- the latest declaration of the name that is still visible
 unfoldable pub look-up : List Declaration → Name → Naming ℕ
-look-up [] x s = refused 6 (x .place)
+look-up [] x s = refused Undeclared (x .place)
 look-up (d ∷ ds) x s = elim (same (d .letters) (x .letters)) [ true ↦ given (record { what = d .cell; scope = s }) | false ↦ look-up ds x s ]
 
 unfoldable pub used : Name → Naming ℕ
 used x = λ s. look-up (s .visible) x s
 
--- the declarations with one more in front
+-- one declaration more. Cell k, counted from 0, belongs to the k-th declaration in the text; cells aren't shared.
 unfoldable pub one-more : Name → Scope → Scope
-one-more x s = record { visible = record { letters = x .letters; cell = s .declared } ∷ s .visible; declared = suc (s .declared) }
+one-more x s = record {
+  visible = record { letters = x .letters; cell = s .next-cell; block = s .blocks } ∷ s .visible;
+  declared = suc (s .declared);
+  next-cell = suc (s .next-cell);
+  cells = suc (s .cells);
+  blocks = s .blocks;
+}
 
--- cell k, counted from 0, belongs to the k-th declaration in the text; cells aren't shared
 unfoldable pub declared-here : ℕ → Name → Naming ℕ
-declared-here limit x = λ s. cond (ltb (s .declared) limit) (given (record { what = s .declared; scope = one-more x s })) (refused 7 (x .place))
+declared-here limit x = λ s. cond (ltb (s .declared) limit) (given (record { what = s .next-cell; scope = one-more x s })) (refused TooManyDeclared (x .place))
 
 -- a scope is opened only by a brace, and its declarations vanish at the closing brace
+unfoldable pub opened : Scope → Scope
+opened s = record { visible = s .visible; declared = s .declared; next-cell = s .next-cell; cells = s .cells; blocks = suc (s .blocks) }
+
+unfoldable pub closed : Scope → Scope → Scope
+closed before s = record { visible = before .visible; declared = s .declared; next-cell = s .next-cell; cells = s .cells; blocks = before .blocks }
+
 unfoldable pub scoped : {A : Type 0} → Naming A → Naming A
-scoped m = λ s. pass (m s) (λ a. given (record { what = a .what; scope = record { visible = s .visible; declared = a .scope .declared } }))
+scoped m = λ s. pass (m (opened s)) (λ a. given (record { what = a .what; scope = closed s (a .scope) }))
 
 module _ (limit : ℕ) where
   -- from left to right, so that the leftmost of 6 and 7 is given

@@ -1,1 +1,121 @@
-// Names to cells: definitions and what is proved of them; the compiler works them out.
+// Scopes: what is visible at a place of a text, and the cells of its names. The declarations stand in a lent list, four numbers for each: the place of its name, the place after it, its cell, and its block.
+ghost use mathlib.Core.Path.{_≡_};
+ghost use mathlib.Core.List.{[], _∷_};
+ghost use Prim.Native.Nat.{_+_, _*_, _/_, _<_, suc, min};
+ghost use lib.ListN.{length, getD};
+ghost use Rattle.base.specs.Bytes.{part, same};
+ghost use Rattle.names.specs.Held.{counted, held, visible-in, found, entered, Declares, opened-scope, closed-scope};
+
+pub struct Scope {
+    // The declarations still visible: so many of the list.
+    pub visible: usize,
+    // How many the text has had so far, which is what refusal 7 counts.
+    pub declared: usize,
+    // The cell that the next one gets.
+    pub next_cell: usize,
+    // How many cells there are so far.
+    pub cells: usize,
+    // How many blocks are open.
+    pub blocks: usize,
+}
+
+pub enum Cell {
+    At(usize),
+    Nowhere,
+}
+
+pub enum Declared {
+    Is(Scope),
+    TooMany,
+}
+
+// Numbers that a declaration takes in the list.
+pub const ENTRY: usize = 4;
+
+// One more, as far as numbers go.
+fn one_more(n: usize) -> usize
+    ensures { λ r. ⌜ r ≡ counted n ⌝ }
+{
+    if n < 18446744073709551615 {
+        return n + 1;
+    }
+    n
+}
+
+// Whether the k-th declaration of the list has these letters. Its length is compared first.
+fn is_named(text: &[u8], names: &[usize], k: usize, word: &[u8]) -> bool
+    requires { ⌜ k < length (now names) / 4 ⌝ }
+    ensures { λ r. ⌜ r ≡ same (held (now (text .entry)) (now (names .entry)) k .letters) (now (word .entry)) ⌝ }
+{
+    let p = names[k * 4];
+    let e = names[k * 4 + 1];
+    base::is_same(base::part(text, p, e), word)
+}
+
+// The latest visible declaration of the name from the place p up to e.
+pub fn look_up(text: &[u8], names: &[usize], s: Scope, p: usize, e: usize) -> Cell
+    ensures { λ r. ⌜ r ≡ found (visible-in (now (text .entry)) (now (names .entry)) (s .visible)) (part (now (text .entry)) p e) ⌝ }
+{
+    let word = base::part(text, p, e);
+    let room = names.len() / 4;
+    let mut k = s.visible;
+    while 0 < k {
+        k -= 1;
+        if k < room {
+            if is_named(text, names, k, word) {
+                return Cell::At(names[k * 4 + 2]);
+            }
+        }
+    }
+    Cell::Nowhere
+}
+
+// One declaration more, of the name from the place p up to e; or there are too many.
+pub fn declare(names: &mut [usize], s: Scope, p: usize, e: usize) -> Declared
+    ensures { λ r. ⌜ Declares (now (names .entry)) s p e r (now (names .exit)) ⌝ }
+{
+    let room = names.len() / 4;
+    if room <= s.declared {
+        return Declared::TooMany;
+    }
+    let k = s.visible;
+    if k < room {
+        names[k * 4] = p;
+        names[k * 4 + 1] = e;
+        names[k * 4 + 2] = s.next_cell;
+        names[k * 4 + 3] = s.blocks;
+    }
+    Declared::Is(Scope {
+        visible: one_more(k),
+        declared: one_more(s.declared),
+        next_cell: one_more(s.next_cell),
+        cells: one_more(s.cells),
+        blocks: s.blocks,
+    })
+}
+
+// The scope after an opening brace.
+pub fn open(s: Scope) -> Scope
+    ensures { λ r. ⌜ r ≡ opened-scope s ⌝ }
+{
+    Scope {
+        visible: s.visible,
+        declared: s.declared,
+        next_cell: s.next_cell,
+        cells: s.cells,
+        blocks: one_more(s.blocks),
+    }
+}
+
+// The scope after the closing brace, where `before` was that before the opening one.
+pub fn close(before: Scope, s: Scope) -> Scope
+    ensures { λ r. ⌜ r ≡ closed-scope before s ⌝ }
+{
+    Scope {
+        visible: before.visible,
+        declared: s.declared,
+        next_cell: s.next_cell,
+        cells: s.cells,
+        blocks: before.blocks,
+    }
+}
