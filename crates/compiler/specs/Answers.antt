@@ -1,10 +1,13 @@
--- What `compile` promises: the paper's number and values for each case of its answer, and what the table then holds.
+-- What `judge` and `compile` promise: the paper's number and values for each case of an answer, and what the table then holds.
 use mathlib.Core.Path.{_≡_}
 use mathlib.Core.List.{List}
-use Prim.Native.Nat.{ℕ}
+use mathlib.Core.Bool.{cond}
+use Prim.Native.Nat.{ℕ, _+_, _≤_}
+use lib.Dec.{ltb}
 use lib.IntN.{ℤ}
+use Rattle.base.specs.declared.Refusal.the-variants.{TooMuchCode}
 use Rattle.base.specs.Answers as A
-use Rattle.base.specs.Answers.{given}
+use Rattle.base.specs.Answers.{given, number}
 use Rattle.lexeme.specs.Lexemes.{Name, Placed, Sizes, lexemes}
 use Rattle.sentence.specs.Sentences.{Sen, command}
 use Rattle.sentence.specs.Reader.{read}
@@ -12,13 +15,17 @@ use Rattle.names.specs.Names.{Known, resolved}
 use Rattle.meaning.specs.Layout.{program-code}
 use Rattle.compiler.specs.declared.Answer.{Answer}
 use Rattle.compiler.specs.declared.Answer.the-variants.{Accepted, Refused}
+use Rattle.compiler.specs.declared.walk.Walk.{Walk}
+use Rattle.compiler.specs.declared.walk.Gives.{Gives}
+use Rattle.compiler.specs.declared.walk.Fault.{Fault}
+use Rattle.compiler.specs.declared.walk.Fault.the-variants as fault
 use Rattle.compiler.specs.Compiled as C
-use Rattle.compiler.specs.Compiled.{Report, report, table-after, laid-out}
+use Rattle.compiler.specs.Compiled.{Report, report, table-after, measured}
 use Rattle.compiler.specs.Tables.{emit}
 
 -- the paper's number and values for each case
 unfoldable pub reported : Answer → Report
-reported (Accepted instructions cells need) = record { number = 0; place = 0; instructions = instructions; cells = cells; need = need }
+reported (Accepted counts) = record { number = 0; place = 0; instructions = counts .instructions; cells = counts .cells; need = counts .need }
 reported (Refused n p) = record { number = n; place = p; instructions = 0; cells = 0; need = 0 }
 
 -- the answer r, and the table of n numbers, are those of a
@@ -26,13 +33,23 @@ pub record Says (a : A.Answer C.Accepted) (n : ℕ) (r : Answer) (table : List �
   pub answer : reported r ≡ report a
   pub numbers : table ≡ table-after n a
 
--- what the sentences decide, whatever the limits under which the text has these lexemes
-unfoldable pub By-sentences : ℕ → ℕ → ℕ → List ℕ → ℕ → Answer → List ℤ → Type 0
-By-sentences nesting declarations instructions text n r table =
-    (sizes : Sizes) (ls : List Placed) → lexemes sizes text ≡ given ls → Says (laid-out nesting declarations instructions ls n) n r table
+-- what the sentences decide, whatever the sizes under which the text has these lexemes, if its literals are numbers
+unfoldable pub Measured : ℕ → ℕ → ℕ → List ℕ → Answer → Type 0
+Measured nesting declarations instructions text r =
+    (sizes : Sizes) (ls : List Placed) → sizes .literal ≤ 2147483647 → lexemes sizes text ≡ given ls → reported r ≡ report (measured nesting declarations instructions ls)
+
+-- what a whole Program's walk comes to
+unfoldable pub settled-by : ℕ → Walk → Gives → Fault → Report
+settled-by limit w g fault.Nothing =
+    cond (ltb limit (w .scope .cells + w .code + 1)) (record { number = number TooMuchCode; place = 0; instructions = 0; cells = 0; need = 0 })
+    (record { number = 0; place = 0; instructions = w .scope .cells + w .code + 1; cells = w .scope .cells; need = w .scope .cells + g .need })
+settled-by limit w g (fault.Is why p) = record { number = number why; place = p; instructions = 0; cells = 0; need = 0 }
+
+unfoldable pub Settles : ℕ → Walk → Gives → Answer → Type 0
+Settles limit w g r = reported r ≡ settled-by limit w g (w .fault)
 
 -- the code of a text that has these cells, written over a table
 unfoldable pub Written : ℕ → ℕ → List ℕ → ℕ → List ℤ → List ℤ → Type 0
 Written nesting declarations text cells table table′ =
-    (sizes : Sizes) (ls : List Placed) (m : Sen Name command) (k : Known (Sen ℕ command)) → lexemes sizes text ≡ given ls → read nesting ls ≡ given m →
-    resolved declarations m ≡ given k → k .scope .declared ≡ cells → table′ ≡ emit table 0 (program-code cells (k .what))
+    (sizes : Sizes) (ls : List Placed) (m : Sen Name command) (k : Known (Sen ℕ command)) → sizes .literal ≤ 2147483647 → lexemes sizes text ≡ given ls → read nesting ls ≡ given m →
+    resolved declarations m ≡ given k → k .scope .cells ≡ cells → table′ ≡ emit table 0 (program-code cells (k .what))

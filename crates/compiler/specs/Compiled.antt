@@ -1,13 +1,14 @@
 -- Document 01, "Refused texts": the order of refusals, and what each text leaves in the lent code table.
 use mathlib.Core.List.{List, [], _++_}
-use mathlib.Core.Bool.{cond, _||_}
+use mathlib.Core.Bool.{cond}
 use Prim.Native.Nat.{ℕ, _/_, _-_}
 use lib.Dec.{ltb}
 use lib.IntN.{ℤ, pos}
 use lib.ListN.{length, replicate}
 use Rattle.limits.specs.Limits.{Limits}
-use Rattle.base.specs.Answers.{Answer, given, refused, pass}
-use Rattle.lexeme.specs.Lexemes.{Placed, Sizes, lexemes}
+use Rattle.base.specs.declared.Refusal.the-variants.{TooLong, TooMuchCode}
+use Rattle.base.specs.Answers.{Answer, given, refused, pass, number}
+use Rattle.lexeme.specs.Lexemes.{Placed, lexemes}
 use Rattle.sentence.specs.Sentences.{Sen, command}
 use Rattle.sentence.specs.Reader.{read}
 use Rattle.names.specs.Names.{resolved}
@@ -20,34 +21,33 @@ pub record Accepted : Type 0 where
   pub cells : ℕ
 
 unfoldable pub short-enough : ℕ → List ℕ → Answer (Unit {0})
-short-enough limit text = cond (ltb limit (length text)) (refused 1 0) (given tt)
+short-enough limit text = cond (ltb limit (length text)) (refused TooLong 0) (given tt)
 
 -- its code
 unfoldable pub code-of-text : Accepted → List Instruction
 code-of-text a = program-code (a .cells) (a .command)
 
--- code of more instructions than the limit, or more pairs than the lent table holds
-unfoldable pub fitting : ℕ → ℕ → Accepted → Answer Accepted
-fitting limit pairs a =
-    cond (ltb limit (length (code-of-text a)) || ltb pairs (length (code-of-text a))) (refused 8 0) (given a)
+-- code of more instructions than that is too much
+unfoldable pub at-most : ℕ → Accepted → Answer Accepted
+at-most limit a = cond (ltb limit (length (code-of-text a))) (refused TooMuchCode 0) (given a)
 
--- what the bytes decide: 1; then the leftmost of 2 and 3
-unfoldable pub lexed : ℕ → Sizes → List ℕ → Answer (List Placed)
-lexed limit sizes text =
-    pass (short-enough limit text) λ _.
-    lexemes sizes text
-
--- what the sentences decide: the leftmost of 4 and 5; then of 6 and 7; then 8. A code table of n numbers holds the pairs that fit.
-unfoldable pub laid-out : ℕ → ℕ → ℕ → List Placed → ℕ → Answer Accepted
-laid-out nesting declarations instructions ls n =
+-- what the sentences decide: the leftmost of 4 and 5; then of 6 and 7; then 8, by the limit of instructions
+unfoldable pub measured : ℕ → ℕ → ℕ → List Placed → Answer Accepted
+measured nesting declarations instructions ls =
     pass (read nesting ls) λ m.
     pass (resolved declarations m) λ k.
-    fitting instructions (n / 2) (record { command = k .what; cells = k .scope .declared })
+    at-most instructions (record { command = k .what; cells = k .scope .cells })
 
+-- a text's answer, whatever table there is: 1; then the leftmost of 2 and 3; then what the sentences decide
+unfoldable pub judged : Limits → List ℕ → Answer Accepted
+judged limits text =
+    pass (short-enough (limits .text) text) λ _.
+    pass (lexemes (limits .sizes) text) λ ls.
+    measured (limits .nesting) (limits .declarations) (limits .instructions) ls
+
+-- with a code table of n numbers, which holds the pairs that fit: 8 too where the code has more
 unfoldable pub compiled : Limits → List ℕ → ℕ → Answer Accepted
-compiled limits text n =
-    pass (lexed (limits .text) (limits .sizes) text) λ ls.
-    laid-out (limits .nesting) (limits .declarations) (limits .instructions) ls n
+compiled limits text n = pass (judged limits text) (at-most (n / 2))
 
 -- ---- what is reported and what the table holds
 
@@ -61,7 +61,7 @@ pub record Report : Type 0 where
 -- accepted is number 0, with place 0; a refusal reports no counts
 unfoldable pub report : Answer Accepted → Report
 report (given a) = record { number = 0; place = 0; instructions = length (code-of-text a); cells = a .cells; need = program-need (a .cells) (a .command) }
-report (refused n p) = record { number = n; place = p; instructions = 0; cells = 0; need = 0 }
+report (refused why p) = record { number = number why; place = p; instructions = 0; cells = 0; need = 0 }
 
 -- the code's numbers, then zeros, in a table of so many numbers
 unfoldable pub filled : ℕ → List ℤ → List ℤ
@@ -70,4 +70,4 @@ filled n code = code ++ replicate (n - length code) (pos 0)
 -- numbers of the table past the code are 0, as is the whole table on refusal
 unfoldable pub table-after : ℕ → Answer Accepted → List ℤ
 table-after n (given a) = filled n (numbers (code-of-text a))
-table-after n (refused k p) = filled n []
+table-after n (refused why p) = filled n []

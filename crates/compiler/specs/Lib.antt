@@ -1,7 +1,5 @@
 pub mod Compiled
-pub mod Answers
-pub mod Lexing
-pub mod Scopes
 pub mod Tables
 pub mod Steps
 pub mod Walks
+pub mod Answers

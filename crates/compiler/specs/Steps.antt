@@ -1,38 +1,81 @@
--- What the small functions answer.
+-- What the code's small steps come to: how a walk moves over lexemes, instructions and names.
+use mathlib.Core.Path.{_≡_}
 use mathlib.Core.List.{List, [], _∷_}
 use mathlib.Core.Bool.{Bool, true, false, cond}
-use Prim.Native.Nat.{ℕ, zero, suc, _+_}
+use mathlib.Core.Logic.{_⊎_}
+use Prim.Native.Nat.{ℕ, _+_, _≤_}
 use Prim.Native.Char.{code}
 use lib.Dec.{ltb, eqb}
 use lib.IntN.{ℤ, pos}
-use lib.ListN.{length, set}
-use Rattle.base.specs.Bytes.{same}
+use Rattle.base.specs.declared.Refusal.{Refusal}
+use Rattle.base.specs.declared.Refusal.the-variants.{NoLexeme, NoProgram, Undeclared, TooManyDeclared}
+use Rattle.base.specs.Bytes.{part}
 use Rattle.lexeme.specs.Lexemes as L
-use Rattle.lexeme.specs.Lexemes.{DO, THEN}
-use Rattle.lexeme.specs.declared.Kind.{Kind}
-use Rattle.lexeme.specs.declared.Kind.the-variants.{Literal, Name, Class, Str, Sign, Mul, Rel, Fixed}
-use Rattle.names.specs.Names.{Declaration}
+use Rattle.lexeme.specs.Lexemes.{DO, THEN, end, next}
+use Rattle.lexeme.specs.Coded.{code-of, coded, fixed-number, Stands}
+use Rattle.lexeme.specs.declared.Kind.the-variants as kind
+use Rattle.lexeme.specs.declared.Lexeme.{Lexeme}
+use Rattle.lexeme.specs.declared.Found.{Found}
+use Rattle.lexeme.specs.declared.Found.the-variants as reply
+use Rattle.names.specs.declared.Scope.{Scope}
+use Rattle.names.specs.declared.Cell.{Cell}
+use Rattle.names.specs.declared.Cell.the-variants.{At, Nowhere}
+use Rattle.names.specs.declared.Declared.{Declared}
+use Rattle.names.specs.declared.Declared.the-variants as declared
+use Rattle.names.specs.Held.{visible-in, found, Declares, opened-scope, closed-scope}
 use Rattle.instruction.specs.Numbers.{plus, minus, times, divide, equals, smaller, greater}
 use Rattle.instruction.specs.Instructions.{number}
 use Rattle.compiler.specs.declared.walk.Walk.{Walk}
-use Rattle.compiler.specs.declared.scope.Cell.{Cell}
-use Rattle.compiler.specs.declared.scope.Cell.the-variants.{At, Nowhere}
-use Rattle.compiler.specs.Scopes.{word-at}
+use Rattle.compiler.specs.declared.walk.Gives.{Gives}
+use Rattle.compiler.specs.declared.walk.Fault.{Fault}
+use Rattle.compiler.specs.declared.walk.Fault.the-variants.{Nothing, Is}
+use Rattle.compiler.specs.declared.walk.Read.{Read}
+use Rattle.compiler.specs.declared.walk.Read.the-variants.{Done, Refused}
 use Rattle.compiler.specs.Tables.{put}
 
 -- ---- the walk
 
-unfoldable pub moved-to : Walk → ℕ → Walk
-moved-to w e = record { at = e; code = w .code; need = w .need; declared = w .declared; fault = w .fault; place = w .place }
+abbrev pub start-at : ℕ → Walk
+start-at place = record { next = record { kind = kind.Fixed (code-of end); place = 0; end = 0 }; code = place; scope = record { visible = 0; declared = 0; next-cell = 0; cells = 0; blocks = 0 }; fault = Nothing }
 
-unfoldable pub one-more : Walk → ℕ → Walk
-one-more w n = record { at = w .at; code = w .code + 1; need = n; declared = w .declared; fault = w .fault; place = w .place }
+unfoldable pub moved-to : Walk → Lexeme → Walk
+moved-to w l = record { next = l; code = w .code; scope = w .scope; fault = w .fault }
 
-unfoldable pub needing : Walk → ℕ → Walk
-needing w n = record { at = w .at; code = w .code; need = n; declared = w .declared; fault = w .fault; place = w .place }
+unfoldable pub one-more : Walk → Walk
+one-more w = record { next = w .next; code = w .code + 1; scope = w .scope; fault = w .fault }
 
-unfoldable pub faulted-walk : Walk → ℕ → ℕ → Walk
-faulted-walk w n p = cond (eqb (w .fault) 0) (record { at = w .at; code = w .code; need = w .need; declared = w .declared; fault = n; place = p }) w
+unfoldable pub in-scope : Walk → Scope → Walk
+in-scope w s = record { next = w .next; code = w .code; scope = s; fault = w .fault }
+
+-- the leftmost refusal stays
+unfoldable pub first-fault : Fault → Refusal → ℕ → Fault
+first-fault Nothing why p = Is why p
+first-fault (Is why′ q) why p = Is why′ q
+
+unfoldable pub faulted-walk : Walk → Refusal → ℕ → Walk
+faulted-walk w why p = record { next = w .next; code = w .code; scope = w .scope; fault = first-fault (w .fault) why p }
+
+-- ---- the lexeme ahead
+
+-- a refusal of the reader of lexemes
+unfoldable pub passed-on : Found → Read
+passed-on (reply.Is l) = Refused NoLexeme (l .place)
+passed-on (reply.Refused why p) = Refused why p
+
+-- the walk v is past the lexeme that w stood before
+pub record Past (text : List ℕ) (w v : Walk) : Type 0 where
+  pub read : reply.Is (v .next) ≡ coded (next text (w .next .end))
+  pub moved : v ≡ moved-to w (v .next)
+  pub later : w .next .end ≤ v .next .place
+  pub stands : Stands text (v .next)
+
+unfoldable pub Advances : List ℕ → Walk → ℕ → Read → Type 0
+Advances text w need (Done v g) = Past text w v × (g .need ≡ need)
+Advances text w need (Refused why p) = reply.Refused why p ≡ coded (next text (w .next .end))
+
+-- the lexeme ahead has this number as a fixed one, and is passed; or it has not, and no Program goes on so
+unfoldable pub Expects : List ℕ → Walk → ℕ → ℕ → Read → Type 0
+Expects text w f need r = ((fixed-number (w .next .kind) ≡ f) × Advances text w need r) ⊎ ((fixed-number (w .next .kind) ≡ f → ⊥) × (r ≡ Refused NoProgram (w .next .place)))
 
 -- ---- the operation of PRINTLNS, which prints a line, or of PRINTS
 
@@ -46,55 +89,13 @@ unfoldable pub before-body : Bool → L.Fixed
 before-body true = DO
 before-body false = THEN
 
-unfoldable pub ended-walk : Bool → Walk → ℕ → Walk
-ended-walk true w n = one-more w n
-ended-walk false w n = needing w n
+unfoldable pub ended-walk : Bool → Walk → Walk
+ended-walk true w = one-more w
+ended-walk false w = w
 
 unfoldable pub ended-table : Bool → List ℤ → ℕ → ℕ → List ℤ
 ended-table true table n back = put table n (pos 5 ∷ pos back ∷ [])
 ended-table false table n back = table
-
--- ---- the lexeme's kind as a number; 255, or 0, where it is none of such
-
-unfoldable pub fixed-number : Kind → ℕ
-fixed-number (Literal v) = 255
-fixed-number Name = 255
-fixed-number Class = 255
-fixed-number Str = 255
-fixed-number (Sign b) = 255
-fixed-number (Mul b) = 255
-fixed-number (Rel b) = 255
-fixed-number (Fixed f) = f
-
-unfoldable pub sign-number : Kind → ℕ
-sign-number (Literal v) = 0
-sign-number Name = 0
-sign-number Class = 0
-sign-number Str = 0
-sign-number (Sign b) = b
-sign-number (Mul b) = 0
-sign-number (Rel b) = 0
-sign-number (Fixed f) = 0
-
-unfoldable pub mul-number : Kind → ℕ
-mul-number (Literal v) = 0
-mul-number Name = 0
-mul-number Class = 0
-mul-number Str = 0
-mul-number (Sign b) = 0
-mul-number (Mul b) = b
-mul-number (Rel b) = 0
-mul-number (Fixed f) = 0
-
-unfoldable pub rel-number : Kind → ℕ
-rel-number (Literal v) = 0
-rel-number Name = 0
-rel-number Class = 0
-rel-number Str = 0
-rel-number (Sign b) = 0
-rel-number (Mul b) = 0
-rel-number (Rel b) = b
-rel-number (Fixed f) = 0
 
 -- the operation of a symbol's byte
 unfoldable pub operation-number : ℕ → ℤ
@@ -109,28 +110,28 @@ operation-number b =
 
 -- ---- names
 
--- the latest declaration with these letters
-unfoldable pub found : List Declaration → List ℕ → Cell
-found [] letters = Nowhere
-found (d ∷ ds) letters = elim (same (d .letters) letters) [ true ↦ At (d .cell) | false ↦ found ds letters ]
-
--- whether an entry is that of a declaration with the letters at a place
-unfoldable pub names-it : List ℕ → ℕ → ℕ → Bool
-names-it text zero place = false
-names-it text (suc p) place = same (word-at text p) (word-at text place)
+-- the cell of the name l, in the scope of the walk
+unfoldable pub cell-of : List ℕ → List ℕ → Walk → Lexeme → Cell
+cell-of text names w l = found (visible-in text names (w .scope .visible)) (part text (l .place) (l .end))
 
 unfoldable pub noted-walk : Cell → Walk → ℕ → Walk
 noted-walk (At k) w p = w
-noted-walk Nowhere w p = faulted-walk w 6 p
+noted-walk Nowhere w p = faulted-walk w Undeclared p
 
 unfoldable pub cell-number : Cell → ℕ
-cell-number (At k) = k
+cell-number (At k) = cond (ltb k 2147483648) k 0
 cell-number Nowhere = 0
 
-unfoldable pub declared-walk : ℕ → Walk → ℕ → Walk
-declared-walk limit w p =
-    cond (ltb (w .declared) limit) (record { at = w .at; code = w .code; need = w .need; declared = w .declared + 1; fault = w .fault; place = w .place })
-    (faulted-walk w 7 p)
+unfoldable pub declared-walk : Declared → Walk → Walk
+declared-walk (declared.Is s) w = in-scope w s
+declared-walk declared.TooMany w = faulted-walk w TooManyDeclared (w .next .place)
 
-unfoldable pub declared-names : List ℕ → Walk → ℕ → List ℕ
-declared-names names w p = cond (ltb (w .declared) (length names)) (set names (w .declared) (p + 1)) names
+-- the name ahead declared in the scope of the walk
+unfoldable pub Declares-ahead : List ℕ → Walk → Walk → List ℕ → Type 0
+Declares-ahead names w r names′ = (d : Declared) × Declares names (w .scope) (w .next .place) (w .next .end) d names′ × (r ≡ declared-walk d w)
+
+unfoldable pub opened-walk : Walk → Walk
+opened-walk w = in-scope w (opened-scope (w .scope))
+
+unfoldable pub closed-walk : Walk → Walk → Walk
+closed-walk before w = in-scope w (closed-scope (before .scope) (w .scope))

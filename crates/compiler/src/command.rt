@@ -1,32 +1,33 @@
 // Commands: one walk reads and translates. Only bodies and blocks recurse; the commands of a block are a loop.
 ghost use mathlib.Core.Path.{_≡_};
-ghost use Prim.Native.Nat.{_<_};
+ghost use Prim.Native.Nat.{suc, _<_};
 ghost use Rattle.lexeme.specs.Coded.{code-of};
 ghost use Rattle.compiler.specs.Steps.{printing-number, before-body, ended-walk, ended-table};
 ghost use Rattle.compiler.specs.Walks.{Ready, Reads-command, Reads-print, Reads-string, Reads-declare, Reads-read, Reads-assign, Reads-nested, Reads-guarded, Reads-block};
 use crate::expression;
-use crate::scope;
-use crate::seen;
+use crate::naming;
 use crate::walk;
+use crate::walk::Gives;
 use crate::walk::Read;
 use crate::walk::Walk;
+use base::Refusal;
 use instruction::operations;
 use lexeme::Kind;
+use lexeme::Lexeme;
 use lexeme::fixed;
-use limits::Limits;
 
 // ---- after the first lexeme of a command without a body
 
 // After PRINTI.
 fn print_int(text: &[u8], names: &[usize], table: &mut [i32], w: Walk, allow: usize) -> Read
-    requires { do ⌜ Ready (record { word = (← ⟦Limits::WORD⟧); string = (← ⟦Limits::STRING⟧); literal = (← ⟦Limits::LITERAL⟧) }) (now text) (now names) w allow ⌝ }
+    requires { ⌜ Ready (now text) (now names) w allow ⌝ }
     ensures { λ r. ⌜ Reads-print (now (text .entry)) (now (names .entry)) (now (table .entry)) w allow r (now (names .entry)) (now (table .exit)) ⌝ }
 {
     let r = expression::expression(text, names, table, w, allow);
-    let Read::Done(x) = r else {
+    let Read::Done(x, g) = r else {
         return r;
     };
-    Read::Done(walk::emitted(table, x, operations::PRINT_INT, 0, x.need))
+    Read::Done(walk::emitted(table, x, operations::PRINT_INT, 0), g)
 }
 
 // The operation of PRINTLNS, which prints a line, or of PRINTS.
@@ -49,71 +50,70 @@ fn print_string(
     line: bool,
     allow: usize,
 ) -> Read
-    requires { do ⌜ Ready (record { word = (← ⟦Limits::WORD⟧); string = (← ⟦Limits::STRING⟧); literal = (← ⟦Limits::LITERAL⟧) }) (now text) (now names) w allow ⌝ }
+    requires { ⌜ Ready (now text) (now names) w allow ⌝ }
     ensures { λ r. ⌜ Reads-string line (now (text .entry)) (now (names .entry)) (now (table .entry)) w allow r (now (names .entry)) (now (table .exit)) ⌝ }
 {
-    let l = seen::look(text, w.at);
+    let l = w.next;
     let kind = l.kind;
     let Kind::Str = kind else {
-        return Read::Refused(4, l.place);
+        return Read::Refused(Refusal::NoProgram, l.place);
     };
-    let x = walk::moved(w, l.end);
     let s = (l.place + 1) as i32;
-    Read::Done(walk::emitted(table, x, printing(line), s, 0))
+    walk::advance(text, walk::emitted(table, w, printing(line), s), 0)
 }
 
 // After INT.
 fn declare(text: &[u8], names: &mut [usize], table: &mut [i32], w: Walk, allow: usize) -> Read
-    requires { do ⌜ Ready (record { word = (← ⟦Limits::WORD⟧); string = (← ⟦Limits::STRING⟧); literal = (← ⟦Limits::LITERAL⟧) }) (now text) (now names) w allow ⌝ }
+    requires { ⌜ Ready (now text) (now names) w allow ⌝ }
     ensures { λ r. ⌜ Reads-declare (now (text .entry)) (now (names .entry)) (now (table .entry)) w allow r (now (names .exit)) (now (table .exit)) ⌝ }
 {
-    let l = seen::look(text, w.at);
+    let l = w.next;
     let kind = l.kind;
     let Kind::Name = kind else {
-        return Read::Refused(4, l.place);
+        return Read::Refused(Refusal::NoProgram, l.place);
     };
-    let x = walk::emitted(table, walk::moved(w, l.end), operations::PUSH_INT, 0, 1);
-    let y = walk::emitted(table, x, operations::STORE_STACK, x.declared as i32, 1);
-    Read::Done(scope::declared(names, y, l.place))
+    let scope = w.scope;
+    let x = walk::emitted(table, w, operations::PUSH_INT, 0);
+    let y = walk::emitted(table, x, operations::STORE_STACK, scope.next_cell as i32);
+    walk::advance(text, naming::declared(names, y), 1)
 }
 
 // After READ.
 fn read(text: &[u8], names: &[usize], table: &mut [i32], w: Walk, allow: usize) -> Read
-    requires { do ⌜ Ready (record { word = (← ⟦Limits::WORD⟧); string = (← ⟦Limits::STRING⟧); literal = (← ⟦Limits::LITERAL⟧) }) (now text) (now names) w allow ⌝ }
+    requires { ⌜ Ready (now text) (now names) w allow ⌝ }
     ensures { λ r. ⌜ Reads-read (now (text .entry)) (now (names .entry)) (now (table .entry)) w allow r (now (names .entry)) (now (table .exit)) ⌝ }
 {
-    let l = seen::look(text, w.at);
+    let l = w.next;
     let kind = l.kind;
     let Kind::Name = kind else {
-        return Read::Refused(4, l.place);
+        return Read::Refused(Refusal::NoProgram, l.place);
     };
-    let x = walk::emitted(table, walk::moved(w, l.end), operations::READ, 0, 1);
-    Read::Done(scope::used(text, names, table, x, l.place, operations::STORE_STACK, 1))
+    let x = walk::emitted(table, w, operations::READ, 0);
+    walk::advance(text, naming::used(text, names, table, x, operations::STORE_STACK), 1)
 }
 
-// After the name at a place. The name is looked up first, since it stands left of the Expression's names.
+// After the name l. It is looked up first, since it stands left of the Expression's names.
 fn assign(
     text: &[u8],
     names: &[usize],
     table: &mut [i32],
     w: Walk,
-    place: usize,
+    l: Lexeme,
     allow: usize,
 ) -> Read
-    requires { do ⌜ Ready (record { word = (← ⟦Limits::WORD⟧); string = (← ⟦Limits::STRING⟧); literal = (← ⟦Limits::LITERAL⟧) }) (now text) (now names) w allow ⌝ }
-    ensures { λ r. ⌜ Reads-assign place (now (text .entry)) (now (names .entry)) (now (table .entry)) w allow r (now (names .entry)) (now (table .exit)) ⌝ }
+    requires { ⌜ Ready (now text) (now names) w allow ⌝ }
+    ensures { λ r. ⌜ Reads-assign l (now (text .entry)) (now (names .entry)) (now (table .entry)) w allow r (now (names .entry)) (now (table .exit)) ⌝ }
 {
-    let r = seen::expect(text, w, b':');
-    let Read::Done(x) = r else {
+    let c = naming::look_up(text, names, w, l);
+    let a = walk::expect(text, naming::noted(w, c, l), b':', 0);
+    let Read::Done(x, _) = a else {
+        return a;
+    };
+    let r = expression::expression(text, names, table, x, allow);
+    let Read::Done(y, g) = r else {
         return r;
     };
-    let c = scope::look_up(text, names, x.declared, place);
-    let s = expression::expression(text, names, table, scope::noted(x, c, place), allow);
-    let Read::Done(y) = s else {
-        return s;
-    };
-    let k = scope::cell_of(c);
-    Read::Done(walk::emitted(table, y, operations::STORE_STACK, k as i32, y.need))
+    Read::Done(walk::emitted(table, y, operations::STORE_STACK, naming::operand(c)), g)
 }
 
 // ---- around the body of an IF or a WHILE
@@ -126,31 +126,34 @@ fn before_body(again: bool) -> u8
 }
 
 // After the body: WHILE jumps back to its condition.
-fn ended(table: &mut [i32], w: Walk, again: bool, back: usize, need: usize) -> Walk
+fn ended(table: &mut [i32], w: Walk, again: bool, back: usize) -> Walk
     requires { ⌜ (w .code < 10000000) × (back < 10000000) ⌝ }
-    ensures { λ r. ⌜ (r ≡ ended-walk again w need) × (now (table .exit) ≡ ended-table again (now (table .entry)) (w .code) back) ⌝ }
+    ensures { λ r. ⌜ (r ≡ ended-walk again w) × (now (table .exit) ≡ ended-table again (now (table .entry)) (w .code) back) ⌝ }
 {
     if again {
-        return walk::emitted(table, w, operations::JUMP, back as i32, need);
+        return walk::emitted(table, w, operations::JUMP, back as i32);
     }
-    walk::with_need(w, need)
+    w
 }
 
 // ---- commands
 
 pub fn command(text: &[u8], names: &mut [usize], table: &mut [i32], w: Walk, allow: usize) -> Read
-    requires { do ⌜ Ready (record { word = (← ⟦Limits::WORD⟧); string = (← ⟦Limits::STRING⟧); literal = (← ⟦Limits::LITERAL⟧) }) (now text) (now names) w allow ⌝ }
+    requires { ⌜ Ready (now text) (now names) w allow ⌝ }
     ensures { λ r. ⌜ Reads-command (now (text .entry)) (now (names .entry)) (now (table .entry)) w allow r (now (names .exit)) (now (table .exit)) ⌝ }
 {
-    let l = seen::look(text, w.at);
+    let l = w.next;
     let kind = l.kind;
-    let x = walk::moved(w, l.end);
+    let a = walk::advance(text, w, 0);
+    let Read::Done(x, _) = a else {
+        return a;
+    };
     if let Kind::Name = kind {
-        return assign(text, names, table, x, l.place, allow);
+        return assign(text, names, table, x, l, allow);
     }
-    let f = seen::fixed_of(kind);
+    let f = lexeme::fixed_of(kind);
     match f {
-        fixed::ERROR => Read::Done(walk::emitted(table, x, operations::HALT, 1, 0)),
+        fixed::ERROR => Read::Done(walk::emitted(table, x, operations::HALT, 1), Gives { need: 0 }),
         fixed::INT => declare(text, names, table, x, allow),
         fixed::PRINTI => print_int(text, names, table, x, allow),
         fixed::PRINTLNS => print_string(text, names, table, x, true, allow),
@@ -158,17 +161,17 @@ pub fn command(text: &[u8], names: &mut [usize], table: &mut [i32], w: Walk, all
         fixed::READ => read(text, names, table, x, allow),
         fixed::IF | fixed::WHILE | b'{' => {
             if allow == 0 {
-                return Read::Refused(5, l.place);
+                return Read::Refused(Refusal::TooDeep, l.place);
             }
             nested(text, names, table, x, f, allow - 1)
         }
-        _ => Read::Refused(4, l.place),
+        _ => Read::Refused(Refusal::NoProgram, l.place),
     }
 }
 
 // After IF, WHILE or `{`, with so many nestings allowed inside.
 fn nested(text: &[u8], names: &mut [usize], table: &mut [i32], w: Walk, f: u8, allow: usize) -> Read
-    requires { do ⌜ Ready (record { word = (← ⟦Limits::WORD⟧); string = (← ⟦Limits::STRING⟧); literal = (← ⟦Limits::LITERAL⟧) }) (now text) (now names) w allow ⌝ }
+    requires { ⌜ Ready (now text) (now names) w (suc allow) ⌝ }
     ensures { λ r. ⌜ Reads-nested f (now (text .entry)) (now (names .entry)) (now (table .entry)) w allow r (now (names .exit)) (now (table .exit)) ⌝ }
 {
     if f == b'{' {
@@ -186,47 +189,46 @@ fn guarded(
     again: bool,
     allow: usize,
 ) -> Read
-    requires { do ⌜ Ready (record { word = (← ⟦Limits::WORD⟧); string = (← ⟦Limits::STRING⟧); literal = (← ⟦Limits::LITERAL⟧) }) (now text) (now names) w allow ⌝ }
+    requires { ⌜ Ready (now text) (now names) w (suc allow) ⌝ }
     ensures { λ r. ⌜ Reads-guarded again (now (text .entry)) (now (names .entry)) (now (table .entry)) w allow r (now (names .exit)) (now (table .exit)) ⌝ }
 {
     let r = expression::condition(text, names, table, w, allow);
-    let Read::Done(c) = r else {
+    let Read::Done(c, g) = r else {
         return r;
     };
-    let s = seen::expect(text, c, before_body(again));
-    let Read::Done(x) = s else {
+    let s = walk::expect(text, c, before_body(again), 0);
+    let Read::Done(x, _) = s else {
         return s;
     };
-    let t = command(text, names, table, walk::skipped(x, 0), allow);
-    let Read::Done(y) = t else {
+    let t = command(text, names, table, walk::skipped(x), allow);
+    let Read::Done(y, h) = t else {
         return t;
     };
-    let end = ended(table, y, again, w.code, walk::larger(x.need, y.need));
-    walk::put(table, x.code, operations::JUMP_IF_FALSE, end.code as i32);
-    Read::Done(end)
+    let end = ended(table, y, again, w.code);
+    walk::put(table, c.code, operations::JUMP_IF_FALSE, end.code as i32);
+    Read::Done(end, Gives { need: walk::larger(g.need, h.need) })
 }
 
 // After `{`, with so many nestings allowed inside.
 fn block(text: &[u8], names: &mut [usize], table: &mut [i32], w: Walk, allow: usize) -> Read
-    requires { do ⌜ Ready (record { word = (← ⟦Limits::WORD⟧); string = (← ⟦Limits::STRING⟧); literal = (← ⟦Limits::LITERAL⟧) }) (now text) (now names) w allow ⌝ }
+    requires { ⌜ Ready (now text) (now names) w (suc allow) ⌝ }
     ensures { λ r. ⌜ Reads-block (now (text .entry)) (now (names .entry)) (now (table .entry)) w allow r (now (names .exit)) (now (table .exit)) ⌝ }
 {
-    let first = command(text, names, table, w, allow);
-    let Read::Done(x) = first else {
+    let first = command(text, names, table, naming::opened(w), allow);
+    let Read::Done(x, g) = first else {
         return first;
     };
     let mut done = x;
+    let mut need = g.need;
     loop {
-        let l = seen::look(text, done.at);
-        let kind = l.kind;
-        if seen::fixed_of(kind) == b'}' {
-            scope::close(names, w.declared, done.declared);
-            return Read::Done(walk::moved(done, l.end));
+        if walk::fixed_ahead(done) == b'}' {
+            return walk::advance(text, naming::closed(w, done), need);
         }
         let r = command(text, names, table, done, allow);
-        let Read::Done(y) = r else {
+        let Read::Done(y, h) = r else {
             return r;
         };
-        done = walk::with_need(y, walk::larger(done.need, y.need));
+        done = y;
+        need = walk::larger(need, h.need);
     }
 }

@@ -1,163 +1,188 @@
 // Expressions and conditions: one walk reads and translates. Repetition is by loops; only brackets and NOT recurse.
-ghost use Rattle.compiler.specs.Walks.{Ready, Reads-factor, Reads-bracket, Reads-term, Reads-first-term, Reads-expression, Reads-condition, Reads-comparison};
-use crate::scope;
-use crate::seen;
+ghost use mathlib.Core.Path.{_≡_};
+ghost use Prim.Native.Nat.{suc};
+ghost use Rattle.lexeme.specs.Coded.{fixed-number};
+ghost use Rattle.compiler.specs.Walks.{Ready, Reads-factor, Reads-term, Reads-first-term, Reads-expression, Reads-condition, Reads-comparison};
+use crate::naming;
+use crate::operator;
 use crate::walk;
+use crate::walk::Gives;
 use crate::walk::Read;
 use crate::walk::Walk;
+use base::Refusal;
 use instruction::operations;
 use lexeme::Kind;
 use lexeme::fixed;
-use limits::Limits;
 
 fn factor(text: &[u8], names: &[usize], table: &mut [i32], w: Walk, allow: usize) -> Read
-    requires { do ⌜ Ready (record { word = (← ⟦Limits::WORD⟧); string = (← ⟦Limits::STRING⟧); literal = (← ⟦Limits::LITERAL⟧) }) (now text) (now names) w allow ⌝ }
+    requires { ⌜ Ready (now text) (now names) w allow ⌝ }
     ensures { λ r. ⌜ Reads-factor (now (text .entry)) (now (names .entry)) (now (table .entry)) w allow r (now (names .entry)) (now (table .exit)) ⌝ }
 {
-    let l = seen::look(text, w.at);
+    let l = w.next;
     let kind = l.kind;
-    let x = walk::moved(w, l.end);
     match kind {
-        Kind::Literal(v) => Read::Done(walk::emitted(table, x, operations::PUSH_INT, v as i32, 1)),
-        Kind::Name => Read::Done(scope::used(
-            text,
-            names,
-            table,
-            x,
-            l.place,
-            operations::LOAD_STACK,
-            1,
-        )),
-        _ => {
-            if seen::fixed_of(kind) != b'(' {
-                return Read::Refused(4, l.place);
+        Kind::Literal(v) => {
+            let x = walk::emitted(table, w, operations::PUSH_INT, operator::operand(v));
+            walk::advance(text, x, 1)
+        }
+        Kind::Name => {
+            let x = naming::used(text, names, table, w, operations::LOAD_STACK);
+            walk::advance(text, x, 1)
+        }
+        Kind::Class => Read::Refused(Refusal::NoProgram, l.place),
+        Kind::Str => Read::Refused(Refusal::NoProgram, l.place),
+        Kind::Fixed(f) => {
+            if f != b'(' {
+                return Read::Refused(Refusal::NoProgram, l.place);
             }
             if allow == 0 {
-                return Read::Refused(5, l.place);
+                return Read::Refused(Refusal::TooDeep, l.place);
             }
-            bracket(text, names, table, x, allow - 1)
+            bracket(text, names, table, w, allow - 1)
         }
     }
 }
 
-// After `(`, with so many nestings allowed inside.
+// `(`, an Expression, `)`, with so many nestings allowed inside.
 fn bracket(text: &[u8], names: &[usize], table: &mut [i32], w: Walk, allow: usize) -> Read
-    requires { do ⌜ Ready (record { word = (← ⟦Limits::WORD⟧); string = (← ⟦Limits::STRING⟧); literal = (← ⟦Limits::LITERAL⟧) }) (now text) (now names) w allow ⌝ }
-    ensures { λ r. ⌜ Reads-bracket (now (text .entry)) (now (names .entry)) (now (table .entry)) w allow r (now (names .entry)) (now (table .exit)) ⌝ }
+    requires { ⌜ Ready (now text) (now names) w (suc allow) ⌝ }
+    requires { ⌜ fixed-number (w .next .kind) ≡ 40 ⌝ }
+    ensures { λ r. ⌜ Reads-factor (now (text .entry)) (now (names .entry)) (now (table .entry)) w (suc allow) r (now (names .entry)) (now (table .exit)) ⌝ }
 {
-    let r = expression(text, names, table, w, allow);
-    let Read::Done(x) = r else {
+    let a = walk::advance(text, w, 0);
+    let Read::Done(x, _) = a else {
+        return a;
+    };
+    let r = expression(text, names, table, x, allow);
+    let Read::Done(y, g) = r else {
         return r;
     };
-    seen::expect(text, x, b')')
+    walk::expect(text, y, b')', g.need)
 }
 
 fn term(text: &[u8], names: &[usize], table: &mut [i32], w: Walk, allow: usize) -> Read
-    requires { do ⌜ Ready (record { word = (← ⟦Limits::WORD⟧); string = (← ⟦Limits::STRING⟧); literal = (← ⟦Limits::LITERAL⟧) }) (now text) (now names) w allow ⌝ }
+    requires { ⌜ Ready (now text) (now names) w allow ⌝ }
     ensures { λ r. ⌜ Reads-term (now (text .entry)) (now (names .entry)) (now (table .entry)) w allow r (now (names .entry)) (now (table .exit)) ⌝ }
 {
     let first = factor(text, names, table, w, allow);
-    let Read::Done(x) = first else {
+    let Read::Done(x, g) = first else {
         return first;
     };
     let mut left = x;
+    let mut need = g.need;
     loop {
-        let l = seen::look(text, left.at);
-        let kind = l.kind;
-        let o = seen::mul_of(kind);
-        if o == 0 {
-            return Read::Done(left);
+        let f = walk::fixed_ahead(left);
+        if !operator::is_mul(f) {
+            return Read::Done(left, Gives { need: need });
         }
-        let r = factor(text, names, table, walk::moved(left, l.end), allow);
-        let Read::Done(y) = r else {
+        let a = walk::advance(text, left, 0);
+        let Read::Done(y, _) = a else {
+            return a;
+        };
+        let r = factor(text, names, table, y, allow);
+        let Read::Done(z, h) = r else {
             return r;
         };
-        left = walk::joined(table, left.need, y, seen::operation(o));
+        left = walk::emitted(table, z, operator::operation(f), 0);
+        need = walk::larger(need, 1 + h.need);
     }
 }
 
 // One sign or none, and a Term.
 fn first_term(text: &[u8], names: &[usize], table: &mut [i32], w: Walk, allow: usize) -> Read
-    requires { do ⌜ Ready (record { word = (← ⟦Limits::WORD⟧); string = (← ⟦Limits::STRING⟧); literal = (← ⟦Limits::LITERAL⟧) }) (now text) (now names) w allow ⌝ }
+    requires { ⌜ Ready (now text) (now names) w allow ⌝ }
     ensures { λ r. ⌜ Reads-first-term (now (text .entry)) (now (names .entry)) (now (table .entry)) w allow r (now (names .entry)) (now (table .exit)) ⌝ }
 {
-    let l = seen::look(text, w.at);
-    let kind = l.kind;
-    let g = seen::sign_of(kind);
-    if g == 0 {
+    let f = walk::fixed_ahead(w);
+    if !operator::is_sign(f) {
         return term(text, names, table, w, allow);
     }
-    let r = term(text, names, table, walk::moved(w, l.end), allow);
-    let Read::Done(x) = r else {
+    let a = walk::advance(text, w, 0);
+    let Read::Done(x, _) = a else {
+        return a;
+    };
+    let r = term(text, names, table, x, allow);
+    let Read::Done(y, g) = r else {
         return r;
     };
-    if g == b'-' {
-        return Read::Done(walk::emitted(table, x, operations::NEGATE, 0, x.need));
+    if f == b'-' {
+        return Read::Done(walk::emitted(table, y, operations::NEGATE, 0), g);
     }
-    Read::Done(x)
+    Read::Done(y, g)
 }
 
 pub fn expression(text: &[u8], names: &[usize], table: &mut [i32], w: Walk, allow: usize) -> Read
-    requires { do ⌜ Ready (record { word = (← ⟦Limits::WORD⟧); string = (← ⟦Limits::STRING⟧); literal = (← ⟦Limits::LITERAL⟧) }) (now text) (now names) w allow ⌝ }
+    requires { ⌜ Ready (now text) (now names) w allow ⌝ }
     ensures { λ r. ⌜ Reads-expression (now (text .entry)) (now (names .entry)) (now (table .entry)) w allow r (now (names .entry)) (now (table .exit)) ⌝ }
 {
     let first = first_term(text, names, table, w, allow);
-    let Read::Done(x) = first else {
+    let Read::Done(x, g) = first else {
         return first;
     };
     let mut left = x;
+    let mut need = g.need;
     loop {
-        let l = seen::look(text, left.at);
-        let kind = l.kind;
-        let o = seen::sign_of(kind);
-        if o == 0 {
-            return Read::Done(left);
+        let f = walk::fixed_ahead(left);
+        if !operator::is_sign(f) {
+            return Read::Done(left, Gives { need: need });
         }
-        let r = term(text, names, table, walk::moved(left, l.end), allow);
-        let Read::Done(y) = r else {
+        let a = walk::advance(text, left, 0);
+        let Read::Done(y, _) = a else {
+            return a;
+        };
+        let r = term(text, names, table, y, allow);
+        let Read::Done(z, h) = r else {
             return r;
         };
-        left = walk::joined(table, left.need, y, seen::operation(o));
+        left = walk::emitted(table, z, operator::operation(f), 0);
+        need = walk::larger(need, 1 + h.need);
     }
 }
 
 pub fn condition(text: &[u8], names: &[usize], table: &mut [i32], w: Walk, allow: usize) -> Read
-    requires { do ⌜ Ready (record { word = (← ⟦Limits::WORD⟧); string = (← ⟦Limits::STRING⟧); literal = (← ⟦Limits::LITERAL⟧) }) (now text) (now names) w allow ⌝ }
+    requires { ⌜ Ready (now text) (now names) w allow ⌝ }
     ensures { λ r. ⌜ Reads-condition (now (text .entry)) (now (names .entry)) (now (table .entry)) w allow r (now (names .entry)) (now (table .exit)) ⌝ }
 {
-    let l = seen::look(text, w.at);
-    let kind = l.kind;
-    if seen::fixed_of(kind) != fixed::NOT {
+    if walk::fixed_ahead(w) != fixed::NOT {
         return comparison(text, names, table, w, allow);
     }
     if allow == 0 {
-        return Read::Refused(5, l.place);
+        let l = w.next;
+        return Read::Refused(Refusal::TooDeep, l.place);
     }
-    let r = condition(text, names, table, walk::moved(w, l.end), allow - 1);
-    let Read::Done(x) = r else {
+    let a = walk::advance(text, w, 0);
+    let Read::Done(x, _) = a else {
+        return a;
+    };
+    let r = condition(text, names, table, x, allow - 1);
+    let Read::Done(y, g) = r else {
         return r;
     };
-    Read::Done(walk::emitted(table, x, operations::NOT, 0, x.need))
+    Read::Done(walk::emitted(table, y, operations::NOT, 0), g)
 }
 
 // An Expression, one relation, an Expression.
 fn comparison(text: &[u8], names: &[usize], table: &mut [i32], w: Walk, allow: usize) -> Read
-    requires { do ⌜ Ready (record { word = (← ⟦Limits::WORD⟧); string = (← ⟦Limits::STRING⟧); literal = (← ⟦Limits::LITERAL⟧) }) (now text) (now names) w allow ⌝ }
+    requires { ⌜ Ready (now text) (now names) w allow ⌝ }
     ensures { λ r. ⌜ Reads-comparison (now (text .entry)) (now (names .entry)) (now (table .entry)) w allow r (now (names .entry)) (now (table .exit)) ⌝ }
 {
     let left = expression(text, names, table, w, allow);
-    let Read::Done(x) = left else {
+    let Read::Done(x, g) = left else {
         return left;
     };
-    let l = seen::look(text, x.at);
-    let kind = l.kind;
-    let o = seen::rel_of(kind);
-    if o == 0 {
-        return Read::Refused(4, l.place);
+    let f = walk::fixed_ahead(x);
+    if !operator::is_rel(f) {
+        let l = x.next;
+        return Read::Refused(Refusal::NoProgram, l.place);
     }
-    let right = expression(text, names, table, walk::moved(x, l.end), allow);
-    let Read::Done(y) = right else {
+    let a = walk::advance(text, x, 0);
+    let Read::Done(y, _) = a else {
+        return a;
+    };
+    let right = expression(text, names, table, y, allow);
+    let Read::Done(z, h) = right else {
         return right;
     };
-    Read::Done(walk::joined(table, x.need, y, seen::operation(o)))
+    let need = walk::larger(g.need, 1 + h.need);
+    Read::Done(walk::emitted(table, z, operator::operation(f), 0), Gives { need: need })
 }

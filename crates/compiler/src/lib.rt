@@ -1,60 +1,124 @@
-// The compiler: a text and a lent code table to an answer.
+// The compiler: a text judged, and its code written into a lent table.
 mod command;
 mod expression;
-mod scope;
-mod seen;
+mod naming;
+mod operator;
 mod walk;
 
 ghost use mathlib.Core.Path.{_≡_};
-ghost use mathlib.Core.List.{[]};
-ghost use lib.IntN.{pos};
-ghost use lib.ListN.{length, replicate};
+ghost use lib.ListN.{length};
 ghost use Rattle.limits.specs.Limits.{Sizes};
-ghost use Rattle.compiler.specs.Answers.{Says, By-sentences, Written};
-ghost use Rattle.compiler.specs.Compiled.{compiled};
+ghost use Rattle.compiler.specs.Answers.{reported, Says, Measured, Settles, Written};
+ghost use Rattle.compiler.specs.Compiled.{report, judged, compiled};
 ghost use Rattle.compiler.specs.Tables.{opening};
-ghost use Rattle.compiler.specs.Walks.{Set-out, Reads-program};
+ghost use Rattle.compiler.specs.Walks.{Set-out, Counted, Reads-program};
+use base::Refusal;
 use instruction::operations;
 use lexeme::Found;
 use lexeme::fixed;
 use limits::Limits;
+use walk::Fault;
+use walk::Gives;
 use walk::Read;
 use walk::Walk;
 
+// What is reported of an accepted text.
+pub struct Counts {
+    pub instructions: usize,
+    pub cells: usize,
+    // Its stack need.
+    pub need: usize,
+}
+
 pub enum Answer {
-    // The counts of instructions and cells, and the stack need.
-    Accepted(usize, usize, usize),
+    Accepted(Counts),
     // The number and the place.
     Refused(u8, usize),
 }
 
 // DO, one Command, the end; the Command's code begins at a place.
 fn program(text: &[u8], names: &mut [usize], table: &mut [i32], code: usize) -> Read
-    requires { do ⌜ Set-out (record { word = (← ⟦Limits::WORD⟧); string = (← ⟦Limits::STRING⟧); literal = (← ⟦Limits::LITERAL⟧) }) (now text) (now names) code ⌝ }
+    requires { ⌜ Set-out (now text) (now names) code ⌝ }
     ensures { λ r. do ⌜ Reads-program (← ⟦Limits::NESTING⟧ .entry) (now (text .entry)) (now (names .entry)) (now (table .entry)) code r (now (names .exit)) (now (table .exit)) ⌝ }
 {
-    let start = Walk {
-        at: 0,
-        code: code,
-        need: 0,
-        declared: 0,
-        fault: 0,
-        place: 0,
+    let a = walk::advance(text, walk::start(code), 0);
+    let Read::Done(w, _) = a else {
+        return a;
     };
-    let r = seen::expect(text, start, fixed::DO);
-    let Read::Done(w) = r else {
+    let b = walk::expect(text, w, fixed::DO, 0);
+    let Read::Done(x, _) = b else {
+        return b;
+    };
+    let r = command::command(text, names, table, x, Limits::NESTING);
+    let Read::Done(y, _) = r else {
         return r;
     };
-    let s = command::command(text, names, table, w, Limits::NESTING);
-    let Read::Done(x) = s else {
-        return s;
-    };
-    let l = seen::look(text, x.at);
-    let kind = l.kind;
-    if seen::fixed_of(kind) != fixed::END {
-        return Read::Refused(4, l.place);
+    if walk::fixed_ahead(y) != fixed::END {
+        let l = y.next;
+        return Read::Refused(Refusal::NoProgram, l.place);
     }
-    Read::Done(x)
+    r
+}
+
+// Numbers that the declarations take.
+const NAMES: usize = Limits::DECLARATIONS * 4;
+
+// A refusal as it is reported.
+fn refused(why: Refusal, place: usize) -> Answer
+    ensures { λ r. ⌜ reported r ≡ report (refused why place) ⌝ }
+{
+    Answer::Refused(base::number(why), place)
+}
+
+// What a whole Program comes to: a name's refusal, too much code, or its counts.
+fn settled(w: Walk, g: Gives) -> Answer
+    requires { ⌜ Counted w g ⌝ }
+    ensures { λ r. do ⌜ Settles (← ⟦Limits::INSTRUCTIONS⟧ .entry) w g r ⌝ }
+{
+    let fault = w.fault;
+    if let Fault::Is(why, place) = fault {
+        return refused(why, place);
+    }
+    let scope = w.scope;
+    let size = scope.cells + w.code + 1;
+    if Limits::INSTRUCTIONS < size {
+        return refused(Refusal::TooMuchCode, 0);
+    }
+    Answer::Accepted(Counts {
+        instructions: size,
+        cells: scope.cells,
+        need: scope.cells + g.need,
+    })
+}
+
+// What the sentences decide. Nothing is written: the table holds no pair.
+fn measured(text: &[u8]) -> Answer
+    requires { do ⌜ length (now text) ≤ (← ⟦Limits::TEXT⟧) ⌝ }
+    ensures { λ r. do ⌜ Measured (← ⟦Limits::NESTING⟧ .entry) (← ⟦Limits::DECLARATIONS⟧ .entry) (← ⟦Limits::INSTRUCTIONS⟧ .entry) (now (text .entry)) r ⌝ }
+{
+    let mut names = [0usize; NAMES];
+    let mut none = [0i32; 1];
+    let r = program(text, &mut names, &mut none, 0);
+    match r {
+        Read::Refused(why, place) => refused(why, place),
+        Read::Done(w, g) => settled(w, g),
+    }
+}
+
+// A text's answer, whatever table there is. The ghost value is the limits of a lexeme: with them and the four others one clause names all seven.
+pub fn judge(text: &[u8]) -> Answer
+    ghost { Sizes }
+    requires { λ sizes. do ⌜ record { word = (← ⟦Limits::WORD⟧); string = (← ⟦Limits::STRING⟧); literal = (← ⟦Limits::LITERAL⟧) } ≡ sizes ⌝ }
+    ensures { λ sizes r. do ⌜ reported r ≡ report (judged (record { text = (← ⟦Limits::TEXT⟧ .entry); sizes = sizes; nesting = (← ⟦Limits::NESTING⟧ .entry); declarations = (← ⟦Limits::DECLARATIONS⟧ .entry); instructions = (← ⟦Limits::INSTRUCTIONS⟧ .entry) }) (now (text .entry))) ⌝ }
+{
+    if lexer::too_long(text) {
+        return refused(Refusal::TooLong, 0);
+    }
+    let found = lexer::scan(text);
+    match found {
+        Found::Refused(why, place) => refused(why, place),
+        Found::Is(_) => measured(text),
+    }
 }
 
 // One `PushInt 0` for each cell.
@@ -70,56 +134,32 @@ fn open(table: &mut [i32], cells: usize)
 
 // The code of a text that has so many cells.
 fn write(text: &[u8], table: &mut [i32], cells: usize)
-    requires { do ⌜ Set-out (record { word = (← ⟦Limits::WORD⟧); string = (← ⟦Limits::STRING⟧); literal = (← ⟦Limits::LITERAL⟧) }) (now text) [] cells ⌝ }
+    requires { do ⌜ (length (now text) ≤ (← ⟦Limits::TEXT⟧)) × (cells ≤ (← ⟦Limits::INSTRUCTIONS⟧)) ⌝ }
     ensures { λ _. do ⌜ Written (← ⟦Limits::NESTING⟧ .entry) (← ⟦Limits::DECLARATIONS⟧ .entry) (now (text .entry)) cells (now (table .entry)) (now (table .exit)) ⌝ }
 {
-    let mut names = [0usize; Limits::DECLARATIONS];
+    let mut names = [0usize; NAMES];
     open(table, cells);
     let r = program(text, &mut names, table, cells);
-    let Read::Done(w) = r else {
+    let Read::Done(w, _) = r else {
         return;
     };
     walk::put(table, w.code, operations::HALT, 0);
 }
 
-// What the sentences decide, once the table is all zeros.
-fn sentences(text: &[u8], table: &mut [i32]) -> Answer
-    requires { do ⌜ Set-out (record { word = (← ⟦Limits::WORD⟧); string = (← ⟦Limits::STRING⟧); literal = (← ⟦Limits::LITERAL⟧) }) (now text) [] 0 ⌝ }
-    requires { ⌜ now table ≡ replicate (length (now table)) (pos 0) ⌝ }
-    ensures { λ r. do ⌜ By-sentences (← ⟦Limits::NESTING⟧ .entry) (← ⟦Limits::DECLARATIONS⟧ .entry) (← ⟦Limits::INSTRUCTIONS⟧ .entry) (now (text .entry)) (length (now (table .entry))) r (now (table .exit)) ⌝ }
-{
-    let mut names = [0usize; Limits::DECLARATIONS];
-    let mut none = [0i32; 1];
-    let r = program(text, &mut names, &mut none, 0);
-    match r {
-        Read::Refused(n, p) => Answer::Refused(n, p),
-        Read::Done(w) => {
-            if w.fault != 0 {
-                return Answer::Refused(w.fault, w.place);
-            }
-            let size = w.declared + w.code + 1;
-            if Limits::INSTRUCTIONS < size || table.len() / 2 < size {
-                return Answer::Refused(8, 0);
-            }
-            write(text, table, w.declared);
-            Answer::Accepted(size, w.declared, w.declared + w.need)
-        }
-    }
-}
-
-// The ghost value is the limits of a lexeme: with them and the four others one clause names all seven.
+// Judged; then the table's room; then written.
 pub fn compile(text: &[u8], table: &mut [i32]) -> Answer
     ghost { Sizes }
     requires { λ sizes. do ⌜ record { word = (← ⟦Limits::WORD⟧); string = (← ⟦Limits::STRING⟧); literal = (← ⟦Limits::LITERAL⟧) } ≡ sizes ⌝ }
     ensures { λ sizes r. do ⌜ Says (compiled (record { text = (← ⟦Limits::TEXT⟧ .entry); sizes = sizes; nesting = (← ⟦Limits::NESTING⟧ .entry); declarations = (← ⟦Limits::DECLARATIONS⟧ .entry); instructions = (← ⟦Limits::INSTRUCTIONS⟧ .entry) }) (now (text .entry)) (length (now (table .entry)))) (length (now (table .entry))) r (now (table .exit)) ⌝ }
 {
     base::clear(table);
-    if lexer::too_long(text) {
-        return Answer::Refused(1, 0);
-    }
-    let f = lexer::scan(text);
-    let Found::Refused(n, p) = f else {
-        return sentences(text, table);
+    let a = judge(text);
+    let Answer::Accepted(counts) = a else {
+        return a;
     };
-    Answer::Refused(n, p)
+    if table.len() / 2 < counts.instructions {
+        return refused(Refusal::TooMuchCode, 0);
+    }
+    write(text, table, counts.cells);
+    a
 }

@@ -1,29 +1,48 @@
 // How far a reading has come, and what it writes.
 ghost use mathlib.Core.Path.{_≡_};
 ghost use mathlib.Core.List.{[], _∷_};
-ghost use Prim.Native.Nat.{_+_, _<_, max};
+ghost use Prim.Native.Nat.{_+_, _≤_, _<_, max};
 ghost use lib.IntN.{pos};
+ghost use lib.ListN.{length};
+ghost use Rattle.lexeme.specs.Coded.{fixed-number};
 ghost use Rattle.compiler.specs.Tables.{put};
-ghost use Rattle.compiler.specs.Steps.{moved-to, one-more, needing, faulted-walk};
+ghost use Rattle.compiler.specs.Steps.{start-at, one-more, moved-to, in-scope, faulted-walk, passed-on, Advances, Expects};
+use base::Refusal;
+use lexeme::Found;
+use lexeme::Kind;
+use lexeme::Lexeme;
+use lexeme::fixed;
+use names::Scope;
 
+// The leftmost refusal of 6 and 7 so far.
+pub enum Fault {
+    Nothing,
+    Is(Refusal, usize),
+}
+
+// What is threaded through a reading.
 pub struct Walk {
-    // The place in the text.
-    pub at: usize,
+    // The lexeme that it stands before.
+    pub next: Lexeme,
     // The place of the next instruction.
     pub code: usize,
-    // The stack need of the construct just read.
+    // What is declared so far.
+    pub scope: Scope,
+    pub fault: Fault,
+}
+
+// What a construct gives.
+pub struct Gives {
+    // Its stack need.
     pub need: usize,
-    // The declarations so far.
-    pub declared: usize,
-    // The leftmost refusal of 6 and 7 so far, or 0, and its place.
-    pub fault: u8,
-    pub place: usize,
 }
 
 pub enum Read {
-    Done(Walk),
-    Refused(u8, usize),
+    Done(Walk, Gives),
+    Refused(Refusal, usize),
 }
+
+// ---- the table
 
 // A pair of the table, if the table has that place.
 pub fn put(table: &mut [i32], n: usize, operation: i32, operand: i32)
@@ -35,73 +54,66 @@ pub fn put(table: &mut [i32], n: usize, operation: i32, operand: i32)
     }
 }
 
-// The walk after a lexeme that ends there.
-pub fn moved(w: Walk, end: usize) -> Walk
-    ensures { λ r. ⌜ r ≡ moved-to w end ⌝ }
-{
-    Walk {
-        at: end,
-        code: w.code,
-        need: w.need,
-        declared: w.declared,
-        fault: w.fault,
-        place: w.place,
-    }
-}
-
 // The walk with a place for one instruction more.
-pub fn skipped(w: Walk, need: usize) -> Walk
+pub fn skipped(w: Walk) -> Walk
     requires { ⌜ w .code < 10000000 ⌝ }
-    ensures { λ r. ⌜ r ≡ one-more w need ⌝ }
+    ensures { λ r. ⌜ r ≡ one-more w ⌝ }
 {
+    let next = w.next;
+    let scope = w.scope;
+    let fault = w.fault;
     Walk {
-        at: w.at,
+        next: next,
         code: w.code + 1,
-        need: need,
-        declared: w.declared,
-        fault: w.fault,
-        place: w.place,
+        scope: scope,
+        fault: fault,
     }
 }
 
-pub fn with_need(w: Walk, need: usize) -> Walk
-    ensures { λ r. ⌜ r ≡ needing w need ⌝ }
-{
-    Walk {
-        at: w.at,
-        code: w.code,
-        need: need,
-        declared: w.declared,
-        fault: w.fault,
-        place: w.place,
-    }
-}
-
-// The walk with one instruction more, and the need so far.
-pub fn emitted(table: &mut [i32], w: Walk, operation: i32, operand: i32, need: usize) -> Walk
+// The walk with one instruction more.
+pub fn emitted(table: &mut [i32], w: Walk, operation: i32, operand: i32) -> Walk
     requires { ⌜ w .code < 10000000 ⌝ }
-    ensures { λ r. ⌜ (r ≡ one-more w need) × (now (table .exit) ≡ put (now (table .entry)) (w .code) (operation ∷ operand ∷ [])) ⌝ }
+    ensures { λ r. ⌜ (r ≡ one-more w) × (now (table .exit) ≡ put (now (table .entry)) (w .code) (operation ∷ operand ∷ [])) ⌝ }
 {
     put(table, w.code, operation, operand);
-    skipped(w, need)
+    skipped(w)
+}
+
+// ---- the scope
+
+// The walk with another scope.
+pub fn scoped(w: Walk, scope: Scope) -> Walk
+    ensures { λ r. ⌜ r ≡ in-scope w scope ⌝ }
+{
+    let next = w.next;
+    let fault = w.fault;
+    Walk {
+        next: next,
+        code: w.code,
+        scope: scope,
+        fault: fault,
+    }
 }
 
 // The walk with a name's refusal, unless it had one.
-pub fn faulted(w: Walk, number: u8, place: usize) -> Walk
-    ensures { λ r. ⌜ r ≡ faulted-walk w number place ⌝ }
+pub fn faulted(w: Walk, why: Refusal, place: usize) -> Walk
+    ensures { λ r. ⌜ r ≡ faulted-walk w why place ⌝ }
 {
-    if w.fault != 0 {
+    let fault = w.fault;
+    if let Fault::Is(_, _) = fault {
         return w;
     }
+    let next = w.next;
+    let scope = w.scope;
     Walk {
-        at: w.at,
+        next: next,
         code: w.code,
-        need: w.need,
-        declared: w.declared,
-        fault: number,
-        place: place,
+        scope: scope,
+        fault: Fault::Is(why, place),
     }
 }
+
+// ---- what constructs give
 
 pub fn larger(a: usize, b: usize) -> usize
     ensures { λ r. ⌜ r ≡ max a b ⌝ }
@@ -109,11 +121,83 @@ pub fn larger(a: usize, b: usize) -> usize
     if a < b { b } else { a }
 }
 
-// Both sides, then the operator or relation.
-pub fn joined(table: &mut [i32], left: usize, w: Walk, operation: i32) -> Walk
-    requires { ⌜ (w .code < 10000000) × (w .need < 10000000) ⌝ }
-    ensures { λ r. ⌜ (r ≡ one-more w (max left (1 + w .need))) × (now (table .exit) ≡ put (now (table .entry)) (w .code) (operation ∷ pos 0 ∷ [])) ⌝ }
+// ---- the lexeme ahead
+
+// Before a text, whose code begins at a place.
+pub fn start(code: usize) -> Walk
+    ensures { λ r. ⌜ r ≡ start-at code ⌝ }
 {
-    let need = larger(left, 1 + w.need);
-    emitted(table, w, operation, 0, need)
+    Walk {
+        next: Lexeme {
+            kind: Kind::Fixed(fixed::END),
+            place: 0,
+            end: 0,
+        },
+        code: code,
+        scope: Scope {
+            visible: 0,
+            declared: 0,
+            next_cell: 0,
+            cells: 0,
+            blocks: 0,
+        },
+        fault: Fault::Nothing,
+    }
+}
+
+// The number of the fixed lexeme ahead; 255 is none.
+pub fn fixed_ahead(w: Walk) -> u8
+    ensures { λ r. ⌜ r ≡ fixed-number (w .next .kind) ⌝ }
+{
+    let l = w.next;
+    let kind = l.kind;
+    lexeme::fixed_of(kind)
+}
+
+// What is no lexeme is refused as the reader of lexemes refuses it.
+fn refused(found: Found) -> Read
+    ensures { λ r. ⌜ r ≡ passed-on found ⌝ }
+{
+    match found {
+        Found::Is(l) => Read::Refused(Refusal::NoLexeme, l.place),
+        Found::Refused(why, p) => Read::Refused(why, p),
+    }
+}
+
+fn moved(w: Walk, l: Lexeme) -> Walk
+    ensures { λ r. ⌜ r ≡ moved-to w l ⌝ }
+{
+    let scope = w.scope;
+    let fault = w.fault;
+    Walk {
+        next: l,
+        code: w.code,
+        scope: scope,
+        fault: fault,
+    }
+}
+
+// Past the lexeme ahead, which ends a construct of this need.
+pub fn advance(text: &[u8], w: Walk, need: usize) -> Read
+    requires { ⌜ w .next .end ≤ length (now text) ⌝ }
+    ensures { λ r. ⌜ Advances (now (text .entry)) w need r ⌝ }
+{
+    let l = w.next;
+    let found = lexer::next(text, l.end);
+    let Found::Is(m) = found else {
+        return refused(found);
+    };
+    Read::Done(moved(w, m), Gives { need: need })
+}
+
+// One fixed lexeme, and no other, which ends a construct of this need.
+pub fn expect(text: &[u8], w: Walk, fixed: u8, need: usize) -> Read
+    requires { ⌜ w .next .end ≤ length (now text) ⌝ }
+    ensures { λ r. ⌜ Expects (now (text .entry)) w fixed need r ⌝ }
+{
+    if fixed_ahead(w) == fixed {
+        return advance(text, w, need);
+    }
+    let l = w.next;
+    Read::Refused(Refusal::NoProgram, l.place)
 }

@@ -128,9 +128,14 @@ pub record Stands (text : List ℕ) (l : Lexeme) : Type 0 where
   pub order : l .place ≤ l .end
   pub within : l .end ≤ length text
   pub some : (Ends l → ⊥) → l .place < l .end
+  pub last : Ends l → l .end ≡ length text
   pub known : kind-of (told text l) ≡ l .kind
+
+-- a literal is a number of the machine
+abbrev pub Number : Lexeme → Type 0
+Number l = (v : ℕ) → l .kind ≡ kind.Literal v → v ≤ 2147483647
 
 -- ls are the lexemes of the text from the code's lexeme l on
 pub data Ahead (text : List ℕ) : Lexeme → List Placed → Type 0 where
   last : (l : Lexeme) → Ends l → Ahead text l (placed text l ∷ [])
-  more : (l m : Lexeme) (ls : List Placed) → (Ends l → ⊥) → Is m ≡ coded (next text (l .end)) → Ahead text m ls → Ahead text l (placed text l ∷ ls)
+  more : (l m : Lexeme) (ls : List Placed) → (Ends l → ⊥) → Number l → Is m ≡ coded (next text (l .end)) → Ahead text m ls → Ahead text l (placed text l ∷ ls)

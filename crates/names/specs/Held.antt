@@ -72,6 +72,10 @@ pub record Sound (names : List ℕ) (s : Scope) : Type 0 where
   pub blocks : s .blocks ≤ 1000000
   pub room : length names ≤ 1000000
 
+-- each visible declaration has a cell below the count of declarations
+pub record Low (names : List ℕ) (s : Scope) : Type 0 where
+  pub cells : (k : ℕ) → k < s .visible → getD names (k * 4 + 2) 0 < s .declared
+
 -- the list is as long as before, and its first k declarations are as before
 pub record Kept (k : ℕ) (names names′ : List ℕ) : Type 0 where
   pub count : length names′ ≡ length names

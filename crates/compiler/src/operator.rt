@@ -1,0 +1,59 @@
+// Operators, relations and literals: which lexemes they are, and their instructions.
+ghost use mathlib.Core.Path.{_≡_};
+ghost use Prim.Native.Nat.{min};
+ghost use lib.IntN.{pos};
+ghost use Rattle.sentence.specs.Reader.{is-sign, is-mul, is-rel};
+ghost use Rattle.compiler.specs.Steps.{operation-number};
+use instruction::operations;
+
+pub fn is_sign(f: u8) -> bool
+    ensures { λ r. ⌜ r ≡ is-sign f ⌝ }
+{
+    match f {
+        b'+' | b'-' => true,
+        _ => false,
+    }
+}
+
+pub fn is_mul(f: u8) -> bool
+    ensures { λ r. ⌜ r ≡ is-mul f ⌝ }
+{
+    match f {
+        b'*' | b'/' => true,
+        _ => false,
+    }
+}
+
+pub fn is_rel(f: u8) -> bool
+    ensures { λ r. ⌜ r ≡ is-rel f ⌝ }
+{
+    match f {
+        b'<' | b'>' | b'=' => true,
+        _ => false,
+    }
+}
+
+// The operation of an operator or a relation.
+pub fn operation(f: u8) -> i32
+    ensures { λ r. ⌜ r ≡ operation-number f ⌝ }
+{
+    match f {
+        b'+' => operations::PLUS,
+        b'-' => operations::MINUS,
+        b'*' => operations::TIMES,
+        b'/' => operations::DIVIDE,
+        b'=' => operations::EQUALS,
+        b'<' => operations::SMALLER,
+        _ => operations::GREATER,
+    }
+}
+
+// A literal as an operand. The scan has refused those beyond the largest number.
+pub fn operand(v: u32) -> i32
+    ensures { λ r. ⌜ r ≡ pos (min v 2147483647) ⌝ }
+{
+    if v < 2147483648 {
+        return v as i32;
+    }
+    2147483647
+}
