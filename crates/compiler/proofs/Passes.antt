@@ -1,29 +1,32 @@
 -- How factors, terms, expressions and conditions are read: a law for each way that their readers come to an answer. Assumes nothing.
-use mathlib.Core.Path.{_≡_, refl}
+use mathlib.Core.Path.{_≡_, refl, sym, ap, _∙_}
 use mathlib.Core.List.{List}
-use mathlib.Core.Bool.{false}
-use Prim.Native.Nat.{ℕ, suc, _+_, _-_}
+use mathlib.Core.Bool.{true, false}
+use Prim.Native.Nat.{ℕ, suc, _+_, _-_, _≤_}
 use native.Mathlib.Nat.{le-refl}
 use native.Mathlib.Omega.{arith}
-use Rattle.lexeme.specs.Coded.{sign-code, mul-code, rel-code, code-of}
-use Rattle.lexeme.specs.Lexemes.{Name, Lexeme, Sign, Mul, Rel, end, open-round, close-round, NOT}
+use borrow.Author.Tests.{lt-ltb}
+use Rattle.base.specs.declared.Refusal.{Refusal}
+use Rattle.base.specs.declared.Refusal.the-variants.{NoProgram, TooDeep}
+use Rattle.lexeme.specs.Lexemes.{Name, Lexeme, next, open-round, close-round, NOT}
+use Rattle.lexeme.specs.Coded.{code-of, coded, fixed-number, told, Ends, Stands}
+use Rattle.lexeme.specs.declared.Found.the-variants as reply
 use Rattle.lexeme.specs.declared.Kind.the-variants as kind
 use Rattle.lexeme.specs.declared.Lexeme as code
-use Rattle.sentence.specs.Sentences.{Sen, factor, term, expression, condition, literal, variable, bracket, first, multiply, unsigned, signed, add, negated, compare}
-use Rattle.sentence.specs.Reader.{Around, depth, in-first, in-multiply, in-unsigned, in-signed, in-add, in-bracket, in-left, in-right, in-negated, want-factor, want-expression, want-condition, is, on, on-lit, on-name, on-sign, on-mul, on-rel, got-factor, at-factor, at-expression, at-condition, after-condition, whole-expression, after-expression, whole-term, after-term, step, verdict}
+use Rattle.sentence.specs.Sentences.{Kind, Sen, factor, term, expression, condition, literal, variable, bracket, first, multiply, unsigned, signed, add, negated, compare}
+use Rattle.sentence.specs.Reader.{Around, depth, in-first, in-multiply, in-unsigned, in-signed, in-add, in-bracket, in-left, in-right, in-negated, want-factor, want-expression, want-condition, State, nowhere, is, on, on-lit, on-name, got-factor, at-factor, at-expression, at-condition, after-condition, whole-expression, after-expression, whole-term, after-term, step, verdict}
 use Rattle.sentence.proofs.Walk.{factor-open}
-use Rattle.compiler.specs.Scopes.{name-at}
-use Rattle.compiler.specs.Steps.{fixed-number, sign-number, mul-number, rel-number}
-use Rattle.compiler.proofs.Looked.{Seen, seen-literal, seen-name, seen-fixed, seen-sign, seen-mul, seen-rel, no-fixed, no-lit, no-name, no-sign, no-mul, no-rel}
-use Rattle.compiler.proofs.Reading.{Comes, comes-on, comes-stuck, comes-within, alike, onward, none, too-deep, Way, Passed, Barred, comes, passes, refuses, Leads, leads, begins, refuses-within, Met, Missed, stays, crosses}
+use Rattle.compiler.specs.declared.walk.Walk.{Walk}
+use Rattle.compiler.specs.declared.walk.Read.the-variants.{Refused}
+use Rattle.compiler.specs.Steps.{Follows, Expects, operand-of}
+use Rattle.compiler.specs.Walks.{name-of}
+use Rattle.compiler.proofs.Looked.{going, literal-goes, name-goes, told-literal, told-name, told-fixed, no-fixed, no-lit, no-name, signs, muls, rels, Is-one, is-none}
+use Rattle.compiler.proofs.Reading.{Comes, comes-on, comes-stuck, comes-within, alike, onward, onward-number, none, too-deep, lost, Way, Passed, Barred, comes, passes, stuck, stuck-within, refuses, Leads, leads, begins-with, refuses-within, Met, unmet, stays, crosses}
 
 -- ---- the ways of the readers
 
 abbrev pub factor-way : Way factor (Sen Name factor)
 factor-way = record { start = want-factor; stop = λ f a. step (got-factor f a) }
-
-abbrev pub bracket-way : Way factor (Sen Name factor)
-bracket-way = record { start = λ a. want-expression (in-bracket a); stop = λ f a. step (got-factor f a) }
 
 abbrev pub term-so-far : Way term (Sen Name term)
 term-so-far = record { start = λ a. want-factor (in-first a); stop = after-term }
@@ -46,135 +49,141 @@ comparison-way = record { start = λ a. want-expression (in-left a); stop = afte
 
 -- ---- factors
 
-module _ {text : List ℕ} {at : ℕ} {r : code.Lexeme} (s : Seen text at r) (allow : ℕ) where
-  -- a lexeme that is a factor
-  a-factor : (f : Sen Name factor) → is end (s .what) ≡ false → ((a : Around factor) → at-factor a (s .what) ≡ got-factor f a) → Passed factor-way text at (r .end) allow f
-  unfolding step
-  a-factor f g e = passes (s .later g) (s .inside g) (onward s (λ a. at-factor a) g (got-factor f) e (λ a. rw (factor-open f a) (omega arith)))
+module _ {text : List ℕ} {l m : code.Lexeme} (s : Stands text l) (allow : ℕ) (next : Follows text l m) where
+  -- what an operand holds of a literal is the literal, where it is a number
+  pub literal-factor : (v : ℕ) → l .kind ≡ kind.Literal v → Passed factor-way text l m allow (literal (operand-of v))
+  unfolding step at-factor on-lit operand-of
+  literal-factor v h =
+      passes (omega (arith, s .some (literal-goes l h), next .later)) (next .stands)
+      (onward-number (λ a. at-factor a) (literal-goes l h) next (got-factor (literal (operand-of v))) (λ n a. rw (told-literal {text} {l} v h, lt-ltb v 2147483648 (omega (arith, n v h)))) (λ a. rw (factor-open (literal (operand-of v)) a) (omega arith)))
 
-  pub literal-factor : (v : ℕ) → r .kind ≡ kind.Literal v → Passed factor-way text at (r .end) allow (literal v)
-  unfolding is at-factor on-lit
-  literal-factor v h = let e = seen-literal s v h in a-factor (literal v) (rw e) (λ a. rw e)
+  pub variable-factor : l .kind ≡ kind.Name → Passed factor-way text l m allow (variable (name-of text l))
+  unfolding step at-factor on-lit on-name
+  variable-factor h =
+      passes (omega (arith, s .some (name-goes l h), next .later)) (next .stands)
+      (onward (λ a. at-factor a) (name-goes l h) next (got-factor (variable (name-of text l))) (λ a. rw (told-name {text} {l} h)) (λ a. rw (factor-open (variable (name-of text l)) a) (omega arith)))
 
-  pub variable-factor : r .kind ≡ kind.Name → Passed factor-way text at (r .end) allow (variable (name-at text (r .place)))
-  unfolding is at-factor on-lit on-name
-  variable-factor h = let e = seen-name s h in a-factor (variable (name-at text (r .place))) (rw e) (λ a. rw e)
+module _ {text : List ℕ} {l : code.Lexeme} (s : Stands text l) (allow : ℕ) where
+  pub no-factor : ((v : ℕ) → l .kind ≡ kind.Literal v → ⊥) → (l .kind ≡ kind.Name → ⊥) → (fixed-number (l .kind) ≡ code-of open-round → ⊥) → Barred factor-way text l allow NoProgram (l .place)
+  unfolding step at-factor on
+  no-factor v n h = refuses text l allow want-factor NoProgram (l .place) (none (λ a. step (want-factor a)) (λ a. rw (no-lit {text} {l} v, no-name {text} {l} n, no-fixed s open-round h)))
 
-  pub no-factor : ((v : ℕ) → r .kind ≡ kind.Literal v → ⊥) → (r .kind ≡ kind.Name → ⊥) → (fixed-number (r .kind) ≡ 40 → ⊥) → Barred factor-way text at allow 4 (r .place)
-  unfolding step at-factor on code-of
-  no-factor l n h = refuses text at allow want-factor 4 (r .place) (none s (λ a. step (want-factor a)) (λ a. rw (no-lit s l, no-name s n, no-fixed s open-round h)))
-
-  pub bracket-too-deep : fixed-number (r .kind) ≡ 40 → allow ≡ 0 → Barred factor-way text at allow 5 (r .place)
+  pub bracket-too-deep : fixed-number (l .kind) ≡ code-of open-round → allow ≡ 0 → Barred factor-way text l allow TooDeep (l .place)
   unfolding step at-factor on on-lit on-name is code-of verdict depth
   bracket-too-deep h z =
-      refuses text at allow want-factor 5 (r .place)
-      (too-deep s (λ a. step (want-factor a)) (λ a. want-expression (in-bracket a)) (λ a. rw (seen-fixed s open-round h)) (λ a. omega arith))
+      refuses text l allow want-factor TooDeep (l .place)
+      (too-deep (λ a. step (want-factor a)) (λ a. want-expression (in-bracket a)) (λ a. rw (told-fixed s open-round h)) (λ a. omega arith))
 
-  -- after the bracket
-  pub bracket-leads : fixed-number (r .kind) ≡ 40 → (allow ≡ 0 → ⊥) → Leads text at (r .end) allow factor-way (suc (allow - 1)) bracket-way (λ f. f)
-  unfolding step at-factor on on-lit on-name is code-of verdict depth
-  bracket-leads h z = crosses s (λ a. a) (le-refl at) stays (seen-fixed s open-round h) refl (λ a. omega arith) (λ a. refl) (λ a. omega arith) (λ x. refl)
+  pub bracket-lost : {why : Refusal} {p : ℕ} → fixed-number (l .kind) ≡ code-of open-round → reply.Refused why p ≡ coded (next text (l .end)) → Barred factor-way text l allow why p
+  unfolding code-of
+  bracket-lost h e = refuses text l allow want-factor _ _ (lost (λ a. step (want-factor a)) (going l h (λ z. omega arith)) e)
 
--- after the bracket: an expression, and the closing bracket
-module _ {text : List ℕ} {at : ℕ} (allow : ℕ) where
-  inside-bracket : (e : Sen Name expression) {m : ℕ} → Passed expression-way text at m allow e → Comes text at m (λ (a : Around factor). depth a + suc allow) (λ a. step (want-expression (in-bracket a))) (λ a. whole-expression e (in-bracket a))
-  unfolding depth
-  inside-bracket e p = comes-within in-bracket (λ a. omega arith) (comes p)
+  -- `(`, an expression, `)`: one nesting more than is allowed inside
+  module _ {m : code.Lexeme} (h : fixed-number (l .kind) ≡ code-of open-round) (then : Follows text l m) where
+    opened : Comes text l m (λ (a : Around factor). depth a + suc allow) (λ a. step (want-factor a)) (λ a. step (want-expression (in-bracket a)))
+    unfolding step at-factor on on-lit on-name is code-of verdict depth
+    opened = onward (λ a. step (want-factor a)) (going l h (λ z. omega arith)) then (λ a. want-expression (in-bracket a)) (λ a. rw (told-fixed s open-round h)) (λ a. omega arith)
 
-  pub bracket-closed : (e : Sen Name expression) {m n : ℕ} → Passed expression-way text at m allow e → Met text m 41 n → Passed bracket-way text at n (suc allow) (bracket e)
-  unfolding whole-expression on is code-of
-  bracket-closed e p met =
-      let s = met .seen in
-      let f = seen-fixed s close-round (met .number) in
-      let g : is end (s .what) ≡ false = rw f in
-      rw (met .ends)
-      (passes (omega (arith, p .later, s .later g)) (s .inside g)
-      (comes-on (inside-bracket e p) (onward s (λ a. whole-expression e (in-bracket a)) g (got-factor (bracket e)) (λ a. rw f) (λ a. rw (factor-open (bracket e) a) (omega arith)))))
+    pub bracket-refused : (why : Refusal) (p : ℕ) → Barred expression-way text m allow why p → Barred factor-way text l (suc allow) why p
+    unfolding depth
+    bracket-refused why p q = refuses text l (suc allow) want-factor why p (comes-stuck opened (stuck-within in-bracket (λ a. omega arith) (stuck text m allow want-expression why p q)))
 
-  pub bracket-unclosed : (e : Sen Name expression) {m n q : ℕ} → Passed expression-way text at m allow e → Missed text m 41 n q → Barred bracket-way text at (suc allow) n q
-  unfolding whole-expression on code-of
-  bracket-unclosed e p miss =
-      rw (miss .refused-4, miss .there)
-      (refuses text at (suc allow) (λ a. want-expression (in-bracket a)) 4 (miss .lexeme .place)
-      (comes-stuck (inside-bracket e p) (none (miss .seen) (λ a. whole-expression e (in-bracket a)) (λ a. rw (no-fixed (miss .seen) close-round (miss .number))))))
+    module _ (e : Sen Name expression) {n : code.Lexeme} (p : Passed expression-way text m n allow e) where
+      to-close : Comes text l n (λ (a : Around factor). depth a + suc allow) (λ a. step (want-factor a)) (λ a. whole-expression e (in-bracket a))
+      unfolding depth
+      to-close = comes-on opened (comes-within in-bracket (λ a. omega arith) (comes p))
 
-pub bracket-refused : (text : List ℕ) (at allow n p : ℕ) → Barred expression-way text at allow n p → Barred bracket-way text at (suc allow) n p
-unfolding depth
-bracket-refused text at allow n p q = refuses-within text at (suc allow) allow want-expression n p in-bracket (λ a. omega arith) q
+      pub bracket-closed : {q : code.Lexeme} → Met text n q close-round → Passed factor-way text l q (suc allow) (bracket e)
+      unfolding whole-expression on is code-of
+      bracket-closed met =
+          passes (omega (arith, s .order, then .later, p .later, p .stands .order, met .follows .later)) (met .follows .stands)
+          (comes-on to-close (onward (λ a. whole-expression e (in-bracket a)) (going n (met .number) (λ z. omega arith)) (met .follows) (got-factor (bracket e)) (λ a. rw (told-fixed (p .stands) close-round (met .number))) (λ a. rw (factor-open (bracket e) a) (omega arith))))
+
+      pub bracket-unclosed : {w : Walk} {need : ℕ} {why : Refusal} {q : ℕ} → w .next ≡ n → Expects text w (code-of close-round) need (Refused why q) → Barred factor-way text l (suc allow) why q
+      unfolding whole-expression on code-of
+      bracket-unclosed {w} is x =
+          refuses text l (suc allow) want-factor _ _
+          (comes-stuck (rw (← is) at to-close) (unmet close-round (λ z. omega arith) (rw is (p .stands)) (λ a. whole-expression e (in-bracket a)) (λ a y h. rw h) x))
 
 -- ---- terms
 
-pub term-first : (text : List ℕ) (at allow : ℕ) → Leads text at at allow term-so-far allow factor-way first
+pub term-first : (text : List ℕ) (l : code.Lexeme) (allow : ℕ) → Leads text l l allow term-so-far allow factor-way first
 unfolding depth step got-factor
-term-first text at allow = begins text at allow term-so-far allow factor-way first in-first (λ a. refl) refl (λ f. refl)
+term-first text l allow = begins-with text l allow term-so-far allow factor-way first in-first (λ a. refl) refl (λ f. refl)
 
-module _ {text : List ℕ} {at m : ℕ} {r : code.Lexeme} (allow : ℕ) (t : Sen Name term) (p : Passed term-so-far text at m allow t) (s : Seen text m r) where
-  pub term-more : (o : Mul) → mul-number (r .kind) ≡ mul-code o → Leads text at (r .end) allow term-so-far allow factor-way (multiply t o)
-  unfolding depth step got-factor after-term on-mul is verdict
-  term-more o h = crosses s (in-multiply t o) (omega (arith, p .later)) (comes p) (seen-mul s o h) refl (λ a. refl) (λ a. refl) (λ a. omega arith) (λ f. refl)
+module _ {text : List ℕ} {l m : code.Lexeme} (allow : ℕ) (t : Sen Name term) (p : Passed term-so-far text l m allow t) where
+  pub term-more : {n : code.Lexeme} (o : Is-one muls text m) → Follows text m n → Leads text l n allow term-so-far allow factor-way (multiply t (o .which))
+  unfolding depth step got-factor after-term verdict
+  term-more o next = crosses (p .stands) (in-multiply t (o .which)) (omega (arith, p .later)) (comes p) (o .told-so) (o .goes) next (λ a. refl) (λ a. muls .such _ _ (o .which)) (λ a. omega arith) (λ f. refl)
 
-  pub term-whole : mul-number (r .kind) ≡ 0 → Passed term-way text at m allow t
+  pub term-whole : muls .test (fixed-number (m .kind)) ≡ false → Passed term-way text l m allow t
   unfolding after-term
-  term-whole h = passes (p .later) (p .inside) (comes-on (comes p) (alike s (after-term t) (whole-term t) (λ a. no-mul s h _ _)))
+  term-whole h = passes (p .later) (p .stands) (comes-on (comes p) (alike (after-term t) (whole-term t) (λ a. is-none muls (p .stands) h _ _)))
 
 -- ---- expressions
 
-module _ {text : List ℕ} {at : ℕ} {r : code.Lexeme} (s : Seen text at r) (allow : ℕ) where
-  pub unsigned-leads : sign-number (r .kind) ≡ 0 → Leads text at at allow first-term-way allow term-way unsigned
+module _ {text : List ℕ} {l : code.Lexeme} (s : Stands text l) (allow : ℕ) where
+  pub unsigned-leads : signs .test (fixed-number (l .kind)) ≡ false → Leads text l l allow first-term-way allow term-way unsigned
   unfolding depth step at-expression whole-term
   unsigned-leads h =
-      leads in-unsigned (le-refl at) (λ a. refl)
-      (alike s (λ a. step (want-expression a)) (λ a. step (want-factor (in-first (in-unsigned a)))) (λ a. no-sign s h _ _))
+      leads in-unsigned (le-refl (l .place)) (λ a. refl)
+      (alike (λ a. step (want-expression a)) (λ a. step (want-factor (in-first (in-unsigned a)))) (λ a. is-none signs s h _ _))
       (λ t. refl)
 
-  pub signed-leads : (g : Sign) → sign-number (r .kind) ≡ sign-code g → Leads text at (r .end) allow first-term-way allow term-way (signed g)
-  unfolding depth step at-expression on-sign whole-term is verdict
-  signed-leads g h = crosses s (in-signed g) (le-refl at) stays (seen-sign s g h) refl (λ a. refl) (λ a. refl) (λ a. omega arith) (λ t. refl)
+  pub signed-leads : {m : code.Lexeme} (g : Is-one signs text l) → Follows text l m → Leads text l m allow first-term-way allow term-way (signed (g .which))
+  unfolding depth step at-expression whole-term verdict
+  signed-leads g next = crosses s (in-signed (g .which)) (le-refl (l .place)) stays (g .told-so) (g .goes) next (λ a. refl) (λ a. signs .such _ _ (g .which)) (λ a. omega arith) (λ t. refl)
 
-module _ {text : List ℕ} {at m : ℕ} {r : code.Lexeme} (allow : ℕ) (d : Sen Name expression) (p : Passed first-term-way text at m allow d) (s : Seen text m r) where
-  pub expression-more : (g : Sign) → sign-number (r .kind) ≡ sign-code g → Leads text at (r .end) allow first-term-way allow term-way (add d g)
-  unfolding depth step after-expression on-sign whole-term is verdict
-  expression-more g h = crosses s (in-add d g) (omega (arith, p .later)) (comes p) (seen-sign s g h) refl (λ a. refl) (λ a. refl) (λ a. omega arith) (λ t. refl)
+module _ {text : List ℕ} {l m : code.Lexeme} (allow : ℕ) (d : Sen Name expression) (p : Passed first-term-way text l m allow d) where
+  pub expression-more : {n : code.Lexeme} (g : Is-one signs text m) → Follows text m n → Leads text l n allow first-term-way allow term-way (add d (g .which))
+  unfolding depth step after-expression whole-term verdict
+  expression-more g next = crosses (p .stands) (in-add d (g .which)) (omega (arith, p .later)) (comes p) (g .told-so) (g .goes) next (λ a. refl) (λ a. signs .such _ _ (g .which)) (λ a. omega arith) (λ t. refl)
 
-  pub expression-whole : sign-number (r .kind) ≡ 0 → Passed expression-way text at m allow d
+  pub expression-whole : signs .test (fixed-number (m .kind)) ≡ false → Passed expression-way text l m allow d
   unfolding after-expression
-  expression-whole h = passes (p .later) (p .inside) (comes-on (comes p) (alike s (after-expression d) (whole-expression d) (λ a. no-sign s h _ _)))
+  expression-whole h = passes (p .later) (p .stands) (comes-on (comes p) (alike (after-expression d) (whole-expression d) (λ a. is-none signs (p .stands) h _ _)))
 
 -- ---- conditions
 
-module _ {text : List ℕ} {at : ℕ} {r : code.Lexeme} (s : Seen text at r) (allow : ℕ) where
-  pub negated-leads : fixed-number (r .kind) ≡ 10 → (allow ≡ 0 → ⊥) → Leads text at (r .end) allow condition-way (allow - 1) condition-way negated
+module _ {text : List ℕ} {l : code.Lexeme} (s : Stands text l) (allow : ℕ) where
+  pub negated-leads : {m : code.Lexeme} → fixed-number (l .kind) ≡ code-of NOT → (allow ≡ 0 → ⊥) → Follows text l m → Leads text l m allow condition-way (allow - 1) condition-way negated
   unfolding depth step at-condition on is code-of verdict after-condition
-  negated-leads h z = crosses s in-negated (le-refl at) stays (seen-fixed s NOT h) refl (λ a. omega arith) (λ a. refl) (λ a. omega arith) (λ t. refl)
+  negated-leads h z next = crosses s in-negated (le-refl (l .place)) stays (told-fixed s NOT h) (going l h (λ e. omega arith)) next (λ a. omega arith) (λ a. refl) (λ a. omega arith) (λ t. refl)
 
-  pub negated-too-deep : fixed-number (r .kind) ≡ 10 → allow ≡ 0 → Barred condition-way text at allow 5 (r .place)
+  pub negated-too-deep : fixed-number (l .kind) ≡ code-of NOT → allow ≡ 0 → Barred condition-way text l allow TooDeep (l .place)
   unfolding depth step at-condition on is code-of verdict
   negated-too-deep h z =
-      refuses text at allow want-condition 5 (r .place)
-      (too-deep s (λ a. step (want-condition a)) (λ a. want-condition (in-negated a)) (λ a. rw (seen-fixed s NOT h)) (λ a. omega arith))
+      refuses text l allow want-condition TooDeep (l .place)
+      (too-deep (λ a. step (want-condition a)) (λ a. want-condition (in-negated a)) (λ a. rw (told-fixed s NOT h)) (λ a. omega arith))
 
-  pub comparison-leads : (fixed-number (r .kind) ≡ 10 → ⊥) → Leads text at at allow condition-way allow comparison-way (λ c. c)
-  unfolding depth step at-condition on code-of
+  pub comparison-leads : (fixed-number (l .kind) ≡ code-of NOT → ⊥) → Leads text l l allow condition-way allow comparison-way (λ c. c)
+  unfolding depth step at-condition on
   comparison-leads h =
-      leads (λ a. a) (le-refl at) (λ a. refl)
-      (alike s (λ a. step (want-condition a)) (λ a. step (want-expression (in-left a))) (λ a. rw (no-fixed s NOT h)))
+      leads (λ a. a) (le-refl (l .place)) (λ a. refl)
+      (alike (λ a. step (want-condition a)) (λ a. step (want-expression (in-left a))) (λ a. rw (no-fixed s NOT h)))
       (λ t. refl)
 
-module _ {text : List ℕ} {at m : ℕ} {r : code.Lexeme} (allow : ℕ) (d : Sen Name expression) (p : Passed expression-way text at m allow d) (s : Seen text m r) where
-  left-side : Comes text at m (λ (a : Around condition). depth a + allow) (λ a. step (want-expression (in-left a))) (λ a. whole-expression d (in-left a))
+module _ {text : List ℕ} {l m : code.Lexeme} (allow : ℕ) (d : Sen Name expression) (p : Passed expression-way text l m allow d) where
+  left-side : Comes text l m (λ (a : Around condition). depth a + allow) (λ a. step (want-expression (in-left a))) (λ a. whole-expression d (in-left a))
   unfolding depth
   left-side = comes-within in-left (λ a. refl) (comes p)
 
-  pub compare-leads : (q : Rel) → rel-number (r .kind) ≡ rel-code q → Leads text at (r .end) allow comparison-way allow expression-way (compare d q)
-  unfolding depth step whole-expression on-rel is verdict
-  compare-leads q h = crosses s (in-right d q) (omega (arith, p .later)) left-side (seen-rel s q h) refl (λ a. refl) (λ a. refl) (λ a. omega arith) (λ t. refl)
+  pub compare-leads : {n : code.Lexeme} (q : Is-one rels text m) → Follows text m n → Leads text l n allow comparison-way allow expression-way (compare d (q .which))
+  unfolding depth step whole-expression verdict
+  compare-leads q next = crosses (p .stands) (in-right d (q .which)) (omega (arith, p .later)) left-side (q .told-so) (q .goes) next (λ a. refl) (λ a. rels .such _ _ (q .which)) (λ a. omega arith) (λ t. refl)
 
-  pub no-relation : rel-number (r .kind) ≡ 0 → Barred comparison-way text at allow 4 (r .place)
+  pub no-relation : rels .test (fixed-number (m .kind)) ≡ false → Barred comparison-way text l allow NoProgram (m .place)
   unfolding whole-expression
   no-relation h =
-      refuses text at allow (λ a. want-expression (in-left a)) 4 (r .place)
-      (comes-stuck left-side (none s (λ a. whole-expression d (in-left a)) (λ a. no-rel s h _ _)))
+      refuses text l allow (λ a. want-expression (in-left a)) NoProgram (m .place)
+      (comes-stuck left-side (none (λ a. whole-expression d (in-left a)) (λ a. is-none rels (p .stands) h _ _)))
 
-pub comparison-refused : (text : List ℕ) (at allow n p : ℕ) → Barred expression-way text at allow n p → Barred comparison-way text at allow n p
+pub comparison-refused : (text : List ℕ) (l : code.Lexeme) (allow : ℕ) (why : Refusal) (p : ℕ) → Barred expression-way text l allow why p → Barred comparison-way text l allow why p
 unfolding depth
-comparison-refused text at allow n p q = refuses-within text at allow allow want-expression n p in-left (λ a. refl) q
+comparison-refused text l allow why p q = refuses-within text l allow allow want-expression why p in-left (λ a. refl) q
+
+-- ---- where what follows a lexeme is no lexeme, nothing is read
+
+pub lost-after : {k : Kind} {X : Type 0} {text : List ℕ} {l m : code.Lexeme} {allow : ℕ} {way : Way k X} {stop : Around k → Lexeme → State} {why : Refusal} {p : ℕ}
+    → Comes text l m (λ (a : Around k). depth a + allow) (λ a. step (way .start a)) stop → (Ends m → ⊥) → reply.Refused why p ≡ coded (next text (m .end)) → Barred way text l allow why p
+lost-after {text} {l} {allow} {way} {stop} c g e = refuses text l allow (way .start) _ _ (comes-stuck c (lost stop g e))

@@ -62,20 +62,30 @@ unfoldable pub passed-on : Found → Read
 passed-on (reply.Is l) = Refused NoLexeme (l .place)
 passed-on (reply.Refused why p) = Refused why p
 
+-- m is the lexeme after l
+pub record Follows (text : List ℕ) (l m : Lexeme) : Type 0 where
+  pub read : reply.Is m ≡ coded (next text (l .end))
+  pub later : l .end ≤ m .place
+  pub stands : Stands text m
+
 -- the walk v is past the lexeme that w stood before
 pub record Past (text : List ℕ) (w v : Walk) : Type 0 where
-  pub read : reply.Is (v .next) ≡ coded (next text (w .next .end))
+  pub follows : Follows text (w .next) (v .next)
   pub moved : v ≡ moved-to w (v .next)
-  pub later : w .next .end ≤ v .next .place
-  pub stands : Stands text (v .next)
 
 unfoldable pub Advances : List ℕ → Walk → ℕ → Read → Type 0
-Advances text w need (Done v g) = Past text w v × (g .need ≡ need)
+Advances text w need (Done v g) = Past text w v × (g ≡ record { need = need })
 Advances text w need (Refused why p) = reply.Refused why p ≡ coded (next text (w .next .end))
 
 -- the lexeme ahead has this number as a fixed one, and is passed; or it has not, and no Program goes on so
 unfoldable pub Expects : List ℕ → Walk → ℕ → ℕ → Read → Type 0
 Expects text w f need r = ((fixed-number (w .next .kind) ≡ f) × Advances text w need r) ⊎ ((fixed-number (w .next .kind) ≡ f → ⊥) × (r ≡ Refused NoProgram (w .next .place)))
+
+-- ---- operands
+
+-- a number that an operand can hold, else 0
+unfoldable pub operand-of : ℕ → ℕ
+operand-of n = cond (ltb n 2147483648) n 0
 
 -- ---- the operation of PRINTLNS, which prints a line, or of PRINTS
 
@@ -119,7 +129,7 @@ noted-walk (At k) w p = w
 noted-walk Nowhere w p = faulted-walk w Undeclared p
 
 unfoldable pub cell-number : Cell → ℕ
-cell-number (At k) = cond (ltb k 2147483648) k 0
+cell-number (At k) = operand-of k
 cell-number Nowhere = 0
 
 unfoldable pub declared-walk : Declared → Walk → Walk

@@ -22,7 +22,7 @@ fn factor(text: &[u8], names: &[usize], table: &mut [i32], w: Walk, allow: usize
     let kind = l.kind;
     match kind {
         Kind::Literal(v) => {
-            let x = walk::emitted(table, w, operations::PUSH_INT, operator::operand(v));
+            let x = walk::emitted(table, w, operations::PUSH_INT, walk::operand(v as usize));
             walk::advance(text, x, 1)
         }
         Kind::Name => {

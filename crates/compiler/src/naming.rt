@@ -30,12 +30,7 @@ pub fn operand(c: Cell) -> i32
     ensures { λ r. ⌜ r ≡ pos (cell-number c) ⌝ }
 {
     match c {
-        Cell::At(k) => {
-            if k < 2147483648 {
-                return k as i32;
-            }
-            0
-        }
+        Cell::At(k) => walk::operand(k),
         Cell::Nowhere => 0,
     }
 }

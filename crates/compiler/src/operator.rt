@@ -1,7 +1,5 @@
-// Operators, relations and literals: which lexemes they are, and their instructions.
+// Operators and relations: which lexemes they are, and their operations.
 ghost use mathlib.Core.Path.{_≡_};
-ghost use Prim.Native.Nat.{min};
-ghost use lib.IntN.{pos};
 ghost use Rattle.sentence.specs.Reader.{is-sign, is-mul, is-rel};
 ghost use Rattle.compiler.specs.Steps.{operation-number};
 use instruction::operations;
@@ -46,14 +44,4 @@ pub fn operation(f: u8) -> i32
         b'<' => operations::SMALLER,
         _ => operations::GREATER,
     }
-}
-
-// A literal as an operand. The scan has refused those beyond the largest number.
-pub fn operand(v: u32) -> i32
-    ensures { λ r. ⌜ r ≡ pos (min v 2147483647) ⌝ }
-{
-    if v < 2147483648 {
-        return v as i32;
-    }
-    2147483647
 }

@@ -6,7 +6,7 @@ ghost use lib.IntN.{pos};
 ghost use lib.ListN.{length};
 ghost use Rattle.lexeme.specs.Coded.{fixed-number};
 ghost use Rattle.compiler.specs.Tables.{put};
-ghost use Rattle.compiler.specs.Steps.{start-at, one-more, moved-to, in-scope, faulted-walk, passed-on, Advances, Expects};
+ghost use Rattle.compiler.specs.Steps.{start-at, one-more, moved-to, in-scope, faulted-walk, passed-on, operand-of, Advances, Expects};
 use base::Refusal;
 use lexeme::Found;
 use lexeme::Kind;
@@ -52,6 +52,16 @@ pub fn put(table: &mut [i32], n: usize, operation: i32, operand: i32)
         table[n * 2] = operation;
         table[n * 2 + 1] = operand;
     }
+}
+
+// A number as an operand, if an operand can hold it.
+pub fn operand(n: usize) -> i32
+    ensures { λ r. ⌜ r ≡ pos (operand-of n) ⌝ }
+{
+    if n < 2147483648 {
+        return n as i32;
+    }
+    0
 }
 
 // The walk with a place for one instruction more.
