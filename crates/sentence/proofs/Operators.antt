@@ -2,6 +2,7 @@
 use mathlib.Core.Path.{_≡_, refl, sym, ap, _∙_}
 use mathlib.Core.Bool.{Bool, true, false, _||_}
 use mathlib.Core.Logic.{_⊎_, inl, inr}
+use mathlib.Mathlib.Data.Bool.Basic.{or-eq-false-eq-eq-false-and-eq-false}
 use Prim.Native.Nat.{ℕ}
 use native.Mathlib.Omega.{arith}
 use lib.Dec.{eqb}
@@ -42,11 +43,7 @@ either n k b h = go (eqb n k) refl h
     go false e h = inr h
 
 neither : (l : Lexeme) (w : Fixed) (b : Bool) → (eqb (number-of l) (code-of w) || b) ≡ false → (is w l ≡ false) × (b ≡ false)
-neither l w b h = rw (is-number w l) (go (eqb (number-of l) (code-of w)) h)
-  where
-    go : (a : Bool) → (a || b) ≡ false → (a ≡ false) × (b ≡ false)
-    go true h = (h, cc)
-    go false h = (refl, h)
+neither l w b h = rw (is-number w l) (or-eq-false-eq-eq-false-and-eq-false (eqb (number-of l) (code-of w)) b .0 h)
 
 -- ---- signs
 

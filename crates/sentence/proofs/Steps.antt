@@ -31,10 +31,7 @@ good-at-factor k l =
 
 good-at-expression : (k : Around expression) (l : Lexeme) → Good (before k) (depth k) (at-expression k l) l
 unfolding at-expression on-sign sign had before depth verdict nested-at open-at going closes opens is code-of
-good-at-expression k l =
-    by-word plus-sign l (good tt refl refl)
-    (by-word minus-sign l (good tt refl refl)
-    (good-at-factor (in-first (in-unsigned k)) l))
+good-at-expression k l = by-word plus-sign l (good tt refl refl) (by-word minus-sign l (good tt refl refl) (good-at-factor (in-first (in-unsigned k)) l))
 
 good-at-condition : (k : Around condition) (l : Lexeme) → Good (before k) (depth k) (at-condition k l) l
 unfolding at-condition had before depth verdict nested-at open-at going closes opens is code-of
@@ -93,10 +90,7 @@ good-whole-expression e (in-assign x k) l = simp append-assoc (good-after-comman
 
 good-after-expression : (e : Sen Name expression) (k : Around expression) (l : Lexeme) → Good (before k ++ spell e) (depth k) (after-expression e k l) l
 unfolding after-expression on-sign sign had before depth verdict nested-at open-at going closes opens is code-of
-good-after-expression e k l =
-    by-word plus-sign l (good tt refl (simp append-assoc))
-    (by-word minus-sign l (good tt refl (simp append-assoc))
-    (good-whole-expression e k l))
+good-after-expression e k l = by-word plus-sign l (good tt refl (simp append-assoc)) (by-word minus-sign l (good tt refl (simp append-assoc)) (good-whole-expression e k l))
 
 good-whole-term : (t : Sen Name term) (k : Around term) (l : Lexeme) → Good (before k ++ spell t) (depth k) (whole-term t k l) l
 unfolding whole-term before spell depth
@@ -116,10 +110,7 @@ good-step (want-string k) l = by-string l (λ q. good tt refl (simp append-assoc
 good-step (want-declared k) l = by-name l (λ x. good tt refl (simp append-assoc)) stuck
 good-step (want-read k) l = by-name l (λ x. good tt refl (simp append-assoc)) stuck
 good-step (want-becomes x k) l = by-word becomes l (good tt refl (simp append-assoc)) stuck
-good-step (got-term t k) l =
-    by-word star l (good tt refl (simp append-assoc))
-    (by-word slash l (good tt refl (simp append-assoc))
-    (good-whole-term t k l))
+good-step (got-term t k) l = by-word star l (good tt refl (simp append-assoc)) (by-word slash l (good tt refl (simp append-assoc)) (good-whole-term t k l))
 good-step (got-command m k) l = good-after-command m k l
 good-step (whole m) l = stuck
 good-step nowhere l = stuck

@@ -95,31 +95,23 @@ lead-condition (signed minus t) k ls = refl
 lead-condition (add e s t) k ls = rw append-assoc (lead-condition e k (sign s ∷ (spell t ++ ls)))
 
 -- a command's first lexeme goes on no term and no expression, and closes no block
-record Begun (m : Sen Name command) : Type 0 where
-  begin : Lexeme
-  rest : List Lexeme
-  same : spell m ≡ begin ∷ rest
-  no-mul : No-mul begin
-  no-sign : No-sign begin
-  no-brace : is close-brace begin ≡ false
-
-by : (l : Lexeme) (m : Sen Name command) (rest : List Lexeme) → spell m ≡ l ∷ rest → No-mul l → No-sign l → is close-brace l ≡ false → Begun m
-by l m rest e x g b = record { begin = l; rest = rest; same = e; no-mul = x; no-sign = g; no-brace = b }
+data Begun (m : Sen Name command) : Type 0 where
+  by : (l : Lexeme) (rest : List Lexeme) → spell m ≡ l ∷ rest → No-mul l → No-sign l → is close-brace l ≡ false → Begun m
 
 begun : (m : Sen Name command) → Begun m
 unfolding spell is is-mul is-sign kind-of fixed-number code-of
-begun (print e) = by (fixed PRINTI) _ _ refl refl refl refl
-begun (print-line q) = by (fixed PRINTLNS) _ _ refl refl refl refl
-begun (print-string q) = by (fixed PRINTS) _ _ refl refl refl refl
-begun (declare x) = by (fixed INT) _ _ refl refl refl refl
-begun (input x) = by (fixed READ) _ _ refl refl refl refl
-begun (assign x e) = by (name x) _ _ refl refl refl refl
-begun error = by (fixed ERROR) _ _ refl refl refl refl
-begun (while c m) = by (fixed WHILE) _ _ refl refl refl refl
-begun (when c m) = by (fixed IF) _ _ refl refl refl refl
-begun (block ms) = by (fixed open-brace) _ _ refl refl refl refl
+begun (print e) = by (fixed PRINTI) _ refl refl refl refl
+begun (print-line q) = by (fixed PRINTLNS) _ refl refl refl refl
+begun (print-string q) = by (fixed PRINTS) _ refl refl refl refl
+begun (declare x) = by (fixed INT) _ refl refl refl refl
+begun (input x) = by (fixed READ) _ refl refl refl refl
+begun (assign x e) = by (name x) _ refl refl refl refl
+begun error = by (fixed ERROR) _ refl refl refl refl
+begun (while c m) = by (fixed WHILE) _ refl refl refl refl
+begun (when c m) = by (fixed IF) _ refl refl refl refl
+begun (block ms) = by (fixed open-brace) _ refl refl refl refl
 
--- a sign goes on no term, and a relation neither
+-- a sign goes on no term; a relation goes on no term and no expression
 sign-no-mul : (g : Sign) → No-mul (sign g)
 unfolding sign is-mul kind-of fixed-number code-of
 sign-no-mul g = elim g [ plus ↦ refl | minus ↦ refl ]
@@ -132,6 +124,7 @@ rel-no-sign : (r : Rel) → No-sign (rel r)
 unfolding rel is-sign kind-of fixed-number code-of
 rel-no-sign r = elim r [ less ↦ refl | greater ↦ refl | equal ↦ refl ]
 
+-- no operator closes a nesting
 closes-mul : (o : Mul) → closes (mul o) ≡ false
 unfolding mul closes is code-of
 closes-mul o = elim o [ times ↦ refl | over ↦ refl ]
@@ -167,12 +160,10 @@ reads (while c m) = λ k l ls h g. simp append-assoc (rw (reads c (in-while k) (
 reads (when c m) = λ k l ls h g. simp append-assoc (rw (reads c (in-when k) (fixed THEN) (spell m ++ l ∷ ls) refl refl, reads m (in-when-body c k) l ls h g))
 reads (block ms) = λ k l ls h g. simp append-assoc (rw (reads ms k (fixed close-brace) (l ∷ ls) refl refl))
 reads (single m) = λ k l ls h g. reads m (in-block k) l ls h g
-reads (then ms m) = λ k l ls h g.
-    let b = begun m in
-    let on-m = rw (b .same) at (reads m (in-block-after ms k) l ls h g) in
-    simp append-assoc
-    (rw (b .same, reads ms k (b .begin) (b .rest ++ l ∷ ls) (b .no-mul) (b .no-sign), b .no-brace)
-    (ap (after (nestings (suc (depth k)) ms)) on-m))
+reads (then ms m) = λ k l ls h g. elim (begun m) [
+  | by b rest e x y z ↦
+      simp append-assoc (rw (e, reads ms k b (rest ++ l ∷ ls) x y, z) (ap (after (nestings (suc (depth k)) ms)) (rw e at (reads m (in-block-after ms k) l ls h g))))
+]
 
 -- every Program is read, and its lexemes stand in the nestings that Sentences.antt says
 pub complete : (m : Sen Name command) → walk want-DO (program m ++ fixed end ∷ []) ≡ record { state = whole m; nested = program-nestings m ++ 0 ∷ [] }
