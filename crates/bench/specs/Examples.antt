@@ -4,7 +4,7 @@ use Prim.Native.Nat.{ℕ}
 use Prim.Native.String.{String}
 use lib.IntN.{ℤ, pos}
 use Rattle.limits.specs.Limits.{Limits}
-use Rattle.base.specs.Answers.{Answer, given, refused}
+use Rattle.base.specs.Answers.{Answer, given, refused, number}
 use Rattle.base.specs.Bytes.{bytes}
 use Rattle.instruction.specs.Instructions.{numbers}
 use Rattle.machine.specs.Machine.{whole-run}
@@ -32,7 +32,7 @@ ran text readings budget a =
 
 unfoldable pub judged : List ℕ → List ℤ → ℕ → Answer Accepted → Comes-to
 judged text readings budget (given a) = ran text readings budget a
-judged text readings budget (refused n p) = refusal n p
+judged text readings budget (refused why p) = refusal (number why) p
 
 -- what the definitions yield, with a code table of 8,192 numbers
 unfoldable pub yields : Limits → Example → Comes-to

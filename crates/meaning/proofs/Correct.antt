@@ -8,8 +8,7 @@ use native.Mathlib.Numerals.{add-one}
 use native.Mathlib.Omega.{arith}
 use lib.IntN.{ℤ, pos, negℤ}
 use lib.ListN.{length}
-use Rattle.lexeme.specs.Lexemes as L
-use Rattle.sentence.specs.Sentences.{Kind, Sen, factor, term, expression, condition, command, commands, literal, variable, bracket, first, multiply, unsigned, signed, add, negated, compare, print, print-line, print-string, declare, input, assign, error, while, when, block, single, then}
+use Rattle.sentence.specs.Sentences.{plus, minus, Kind, Sen, factor, term, expression, condition, command, commands, literal, variable, bracket, first, multiply, unsigned, signed, add, negated, compare, print, print-line, print-string, declare, input, assign, error, while, when, block, single, then}
 use Rattle.sentence.specs.Parts.{Each}
 use Rattle.instruction.specs.Endings.{stopped-by-ERROR}
 use Rattle.instruction.specs.Numbers.{Two-sided, calculate, in-range}
@@ -66,10 +65,10 @@ module _ (lent : Lent) (d : ℕ) where
       let q = holds-code lent (a + size x) y _ (p .1) in
       moved (omega arith) (two (of-mul o) (q .1 .0) (runs x N a ts (p .0) (omega arith) (f .0) (omega arith)) (λ v. runs y N (a + size x) (v ∷ ts) (q .0) (omega arith) (f .1) (omega arith)))
   runs (unsigned t) = runs t
-  runs (signed L.plus t) = λ N a ts h i f r.
+  runs (signed plus t) = λ N a ts h i f r.
       let p = holds-code lent a t _ h in
       bind (runs t N a ts (p .0) (omega arith) f r) (λ v. unfold signed-value in moved (omega arith) (here v (λ w. w ∷ ts)))
-  runs (signed L.minus t) = λ N a ts h i f r.
+  runs (signed minus t) = λ N a ts h i f r.
       let p = holds-code lent a t _ h in
       bind (runs t N a ts (p .0) (omega arith) f r) (λ v. unfold signed-value in moved (omega arith) (step-on (p .1 .0) (results ts (in-range (negℤ v)) (λ g u. unfold does in refl))))
   runs (add x o y) = λ N a ts h i f r.

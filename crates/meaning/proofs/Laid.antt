@@ -8,8 +8,7 @@ use native.Mathlib.Numerals.{add-one}
 use native.Mathlib.Omega.{arith}
 use lib.Dec.{lit<}
 use lib.ListN.{length, getElem?, replicate, length-append}
-use Rattle.lexeme.specs.Lexemes as L
-use Rattle.sentence.specs.Sentences.{Kind, Sen, command, literal, variable, bracket, first, multiply, unsigned, signed, add, negated, compare, print, print-line, print-string, declare, input, assign, error, while, when, block, single, then}
+use Rattle.sentence.specs.Sentences.{plus, minus, Kind, Sen, command, literal, variable, bracket, first, multiply, unsigned, signed, add, negated, compare, print, print-line, print-string, declare, input, assign, error, while, when, block, single, then}
 use Rattle.instruction.specs.Instructions.{Instruction}
 use Rattle.machine.specs.Machine.{Lent, fetched}
 use Rattle.machine.proofs.Pairs.{Sound, All-sound}
@@ -41,8 +40,8 @@ laid a (bracket e) = laid a e
 laid a (first f) = laid a f
 laid a (multiply t o f) = laid-append (laid a t) (laid-append (laid _ f) (laid-one _ tt) refl) (omega arith)
 laid a (unsigned t) = laid a t
-laid a (signed L.plus t) = laid-append (laid a t) (record { long = refl; sound = unfold All-sound in tt }) refl
-laid a (signed L.minus t) = laid-append (laid a t) (laid-one _ tt) refl
+laid a (signed plus t) = laid-append (laid a t) (record { long = refl; sound = unfold All-sound in tt }) refl
+laid a (signed minus t) = laid-append (laid a t) (laid-one _ tt) refl
 laid a (add e g t) = laid-append (laid a e) (laid-append (laid _ t) (laid-one _ tt) refl) (omega arith)
 laid a (negated c) = laid-append (laid a c) (laid-one _ tt) refl
 laid a (compare d r e) = laid-append (laid a d) (laid-append (laid _ e) (laid-one _ tt) refl) (omega arith)

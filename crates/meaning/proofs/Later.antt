@@ -10,7 +10,7 @@ use native.Mathlib.Omega.{arith}
 use lib.Dec.{ltb}
 use lib.IntN.{ℤ, pos}
 use lib.Signed.{mag, quotZ}
-use Rattle.lexeme.specs.Lexemes as L
+use Rattle.sentence.specs.Sentences as S
 use Rattle.sentence.specs.Sentences.{Kind, Sen, command, literal, variable, bracket, first, multiply, unsigned, signed, add, negated, compare, print, print-line, print-string, declare, input, assign, error, while, when, block, single, then}
 use Rattle.instruction.specs.Endings.{normal, budget-spent, stack-full, bad-code, no-reading-left, print-does-not-fit, outside-range, division-by-0}
 use Rattle.instruction.specs.Numbers.{Two-sided, plus, minus, times, divide, equals, smaller, greater, Result, value, ends, in-range, is-false, calculate, negation, decimal}
@@ -146,10 +146,10 @@ module _ {N : ℕ} where
   good-result (value v) w = good-give v
   good-result (ends e) w = good-end w
 
-  good-signed : (g : L.Sign) (v : ℤ) → Good N (signed-value g v)
+  good-signed : (g : S.Sign) (v : ℤ) → Good N (signed-value g v)
   unfolding signed-value
-  good-signed L.plus v = good-give v
-  good-signed L.minus v = good-unit (good-result _ (own-in-range _))
+  good-signed S.plus v = good-give v
+  good-signed S.minus v = good-unit (good-result _ (own-in-range _))
 
   good-next-reading : (readings : List ℤ) (room : ℕ) → Good N (next-reading readings room)
   unfolding next-reading end-with

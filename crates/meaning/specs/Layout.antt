@@ -3,35 +3,34 @@ use mathlib.Core.List.{List, [], _∷_, _++_}
 use Prim.Native.Nat.{ℕ, _+_, max}
 use lib.IntN.{pos}
 use lib.ListN.{replicate}
-use Rattle.lexeme.specs.Lexemes as L
-use Rattle.lexeme.specs.Lexemes.{Sign, Mul, Rel}
-use Rattle.sentence.specs.Sentences.{Kind, Sen, command, literal, variable, bracket, first, multiply, unsigned, signed, add, negated, compare, print, print-line, print-string, declare, input, assign, error, while, when, block, single, then}
+use Rattle.sentence.specs.Sentences as S
+use Rattle.sentence.specs.Sentences.{Sign, Mul, Rel, Kind, Sen, command, literal, variable, bracket, first, multiply, unsigned, signed, add, negated, compare, print, print-line, print-string, declare, input, assign, error, while, when, block, single, then}
 use Rattle.instruction.specs.Numbers.{Two-sided, plus, minus, times, divide, equals, smaller, greater}
 use Rattle.instruction.specs.Instructions.{Instruction, halt, push-int, load-stack, store-stack, jump, jump-if-false, two-sided, negate, not, read, print-int, print-str, print-str-ln}
 
 -- ---- operators and relations
 
 abbrev pub of-mul : Mul → Two-sided
-of-mul L.times = times
-of-mul L.over = divide
+of-mul S.times = times
+of-mul S.over = divide
 
 abbrev pub of-sign : Sign → Two-sided
-of-sign L.plus = plus
-of-sign L.minus = minus
+of-sign S.plus = plus
+of-sign S.minus = minus
 
 abbrev pub of-rel : Rel → Two-sided
-of-rel L.less = smaller
-of-rel L.greater = greater
-of-rel L.equal = equals
+of-rel S.less = smaller
+of-rel S.greater = greater
+of-rel S.equal = equals
 
 -- leading minus: Negate after the Term; leading plus: nothing
 abbrev pub leading : Sign → List Instruction
-leading L.plus = []
-leading L.minus = negate ∷ []
+leading S.plus = []
+leading S.minus = negate ∷ []
 
 abbrev pub leading-size : Sign → ℕ
-leading-size L.plus = 0
-leading-size L.minus = 1
+leading-size S.plus = 0
+leading-size S.minus = 1
 
 -- ---- the code
 

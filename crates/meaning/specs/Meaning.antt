@@ -5,9 +5,7 @@ use mathlib.Core.Option.{none, some}
 use Prim.Native.Nat.{ℕ, zero, suc}
 use lib.Dec.{eqb}
 use lib.IntN.{ℤ, pos, negℤ}
-use Rattle.lexeme.specs.Lexemes as L
-use Rattle.lexeme.specs.Lexemes.{Sign}
-use Rattle.sentence.specs.Sentences.{Kind, Sen, factor, term, expression, condition, command, commands, literal, variable, bracket, first, multiply, unsigned, signed, add, negated, compare, print, print-line, print-string, declare, input, assign, error, while, when, block, single, then}
+use Rattle.sentence.specs.Sentences.{Sign, plus, minus, Kind, Sen, factor, term, expression, condition, command, commands, literal, variable, bracket, first, multiply, unsigned, signed, add, negated, compare, print, print-line, print-string, declare, input, assign, error, while, when, block, single, then}
 use Rattle.instruction.specs.Endings.{normal, stopped-by-ERROR, budget-spent, no-reading-left, print-does-not-fit}
 use Rattle.instruction.specs.Numbers.{Result, value, ends, in-range, is-false, calculate, negation, decimal}
 use Rattle.machine.specs.Machine.{Outside, untouched, reading, one-used, printed, End}
@@ -76,8 +74,8 @@ Value commands = Unit {0}
 
 -- leading plus costs 0
 unfoldable pub signed-value : Sign → ℤ → Act ℤ
-signed-value L.plus v = give v
-signed-value L.minus v = unit >> result (in-range (negℤ v))
+signed-value plus v = give v
+signed-value minus v = unit >> result (in-range (negℤ v))
 
 -- the test's unit falls after the condition, the round's after the body; the fuel is more than the units left, so that it never runs out first
 unfoldable pub rounds : Act ℤ → Act (Unit {0}) → ℕ → Act (Unit {0})

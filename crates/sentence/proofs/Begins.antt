@@ -2,8 +2,8 @@
 use mathlib.Core.Path.{_≡_, refl, sym, ap, _∙_, subst}
 use mathlib.Core.List.{List, [], _∷_, _++_, append-assoc, append-nil}
 use lib.Dec.{T}
-use Rattle.lexeme.specs.Lexemes.{Name, Quoted, Lexeme, less, lit, name, string, rel, fixed, close-round, close-brace, becomes, DO, ERROR, THEN, end}
-use Rattle.sentence.specs.Sentences.{Kind, Sen, expression, command, literal, bracket, first, multiply, unsigned, signed, add, negated, compare, print, print-line, print-string, declare, input, assign, error, while, when, block, single, then}
+use Rattle.lexeme.specs.Lexemes.{Name, Quoted, Lexeme, lit, name, string, fixed, close-round, close-brace, becomes, DO, ERROR, THEN, end}
+use Rattle.sentence.specs.Sentences.{less, rel, Kind, Sen, expression, command, literal, bracket, first, multiply, unsigned, signed, add, negated, compare, print, print-line, print-string, declare, input, assign, error, while, when, block, single, then}
 use Rattle.sentence.specs.Sentences.{spell, program}
 use Rattle.sentence.specs.Grammar.{Whole, Begins}
 use Rattle.sentence.specs.Reader.{Around, in-first, in-multiply, in-unsigned, in-signed, in-add, in-bracket, in-left, in-right, in-print, in-assign, in-negated, in-while, in-when, in-while-body, in-when-body, in-block, in-block-after, in-program}

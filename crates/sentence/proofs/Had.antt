@@ -5,18 +5,15 @@ use mathlib.Core.Bool.{Bool, true, false, cond, not, _&&_, _||_}
 use Prim.Native.Nat.{ℕ, suc, _≤_, zero-le}
 use native.Mathlib.Nat.{le-of-eq}
 use native.Mathlib.Omega.{arith}
-use lib.Dec.{T, eqb}
-use borrow.Author.Tests.{eqb-true}
-use Rattle.lexeme.specs.Coded.{code-of}
-use Rattle.lexeme.specs.Lexemes.{Name, Quoted, Sign, Mul, Rel, Fixed, Lexeme, lit, name, class, string, sign, mul, rel, fixed}
+use lib.Dec.{T}
+use Rattle.lexeme.specs.Lexemes.{Name, Quoted, Fixed, Lexeme, lit, name, class, string, fixed}
 use Rattle.lexeme.specs.Lexemes.{open-round, open-brace, becomes, DO, IF, INT, NOT, PRINTI, PRINTLNS, PRINTS, READ, THEN, WHILE, end}
-use Rattle.sentence.specs.Sentences.{Kind}
-use Rattle.sentence.specs.Sentences.{spell, program}
+use Rattle.sentence.specs.Sentences.{Kind, sign, mul, rel, spell, program}
 use Rattle.sentence.specs.Reader.{Around, in-first, in-multiply, in-unsigned, in-signed, in-add, in-bracket, in-left, in-right, in-print, in-assign, in-negated, in-while, in-when, in-while-body, in-when-body, in-block, in-block-after, in-program}
 use Rattle.sentence.specs.Reader.{State, want-DO, want-factor, want-expression, want-condition, want-command, want-line, want-string, want-declared, want-read, want-becomes, got-term, got-command, whole, nowhere}
-use Rattle.sentence.specs.Reader.{is, on, on-lit, on-name, on-string, on-sign, on-mul, on-rel}
+use Rattle.sentence.specs.Reader.{is, on, on-lit, on-name, on-string}
 use Rattle.sentence.specs.Reader.{Verdict, verdict, goes-on, is-whole, begins-none}
-use Rattle.lexeme.proofs.Decoded.{code-of-injective}
+use Rattle.sentence.proofs.Operators.{is-fixed}
 use Rattle.sentence.proofs.Walk.{nested-at}
 
 -- ---- what a state has read
@@ -109,40 +106,21 @@ module _ {read : List Lexeme} {d : ℕ} where
 
 module _ {read : List Lexeme} {d : ℕ} where
   pub by-word : (w : Fixed) (l : Lexeme) {s t : State} → Good read d s (fixed w) → Good read d t l → Good read d (on w l s t) l
-  unfolding on is
-  by-word w (lit n) h g = g
-  by-word w (name x) h g = g
-  by-word w (class x) h g = g
-  by-word w (string q) h g = g
-  by-word w (sign s) h g = g
-  by-word w (mul o) h g = g
-  by-word w (rel r) h g = g
-  by-word w (fixed v) {s} {t} h g = go (eqb (code-of v) (code-of w)) refl
+  unfolding on
+  by-word w l {s} {t} h g = go (is w l) refl
     where
-      go : (b : Bool) → eqb (code-of v) (code-of w) ≡ b → Good read d (cond b s t) (fixed v)
-      go true e = rw (code-of-injective v w (eqb-true (code-of v) (code-of w) e)) h
+      go : (b : Bool) → is w l ≡ b → Good read d (cond b s t) l
+      go true e = rw (is-fixed w l e) h
       go false e = g
 
   pub by-lit : (l : Lexeme) {f : ℕ → State} {t : State} → ((n : ℕ) → Good read d (f n) (lit n)) → Good read d t l → Good read d (on-lit l f t) l
   unfolding on-lit
-  by-lit l h = elim l [ lit n ↦ λ g. h n | name x ↦ λ g. g | class x ↦ λ g. g | string q ↦ λ g. g | sign s ↦ λ g. g | mul o ↦ λ g. g | rel r ↦ λ g. g | fixed v ↦ λ g. g ]
+  by-lit l h = elim l [ lit n ↦ λ g. h n | name x ↦ λ g. g | class x ↦ λ g. g | string q ↦ λ g. g | fixed v ↦ λ g. g ]
 
   pub by-name : (l : Lexeme) {f : Name → State} {t : State} → ((x : Name) → Good read d (f x) (name x)) → Good read d t l → Good read d (on-name l f t) l
   unfolding on-name
-  by-name l h = elim l [ lit n ↦ λ g. g | name x ↦ λ g. h x | class x ↦ λ g. g | string q ↦ λ g. g | sign s ↦ λ g. g | mul o ↦ λ g. g | rel r ↦ λ g. g | fixed v ↦ λ g. g ]
+  by-name l h = elim l [ lit n ↦ λ g. g | name x ↦ λ g. h x | class x ↦ λ g. g | string q ↦ λ g. g | fixed v ↦ λ g. g ]
 
   pub by-string : (l : Lexeme) {f : Quoted → State} {t : State} → ((q : Quoted) → Good read d (f q) (string q)) → Good read d t l → Good read d (on-string l f t) l
   unfolding on-string
-  by-string l h = elim l [ lit n ↦ λ g. g | name x ↦ λ g. g | class x ↦ λ g. g | string q ↦ λ g. h q | sign s ↦ λ g. g | mul o ↦ λ g. g | rel r ↦ λ g. g | fixed v ↦ λ g. g ]
-
-  pub by-sign : (l : Lexeme) {f : Sign → State} {t : State} → ((s : Sign) → Good read d (f s) (sign s)) → Good read d t l → Good read d (on-sign l f t) l
-  unfolding on-sign
-  by-sign l h = elim l [ lit n ↦ λ g. g | name x ↦ λ g. g | class x ↦ λ g. g | string q ↦ λ g. g | sign s ↦ λ g. h s | mul o ↦ λ g. g | rel r ↦ λ g. g | fixed v ↦ λ g. g ]
-
-  pub by-mul : (l : Lexeme) {f : Mul → State} {t : State} → ((o : Mul) → Good read d (f o) (mul o)) → Good read d t l → Good read d (on-mul l f t) l
-  unfolding on-mul
-  by-mul l h = elim l [ lit n ↦ λ g. g | name x ↦ λ g. g | class x ↦ λ g. g | string q ↦ λ g. g | sign s ↦ λ g. g | mul o ↦ λ g. h o | rel r ↦ λ g. g | fixed v ↦ λ g. g ]
-
-  pub by-rel : (l : Lexeme) {f : Rel → State} {t : State} → ((r : Rel) → Good read d (f r) (rel r)) → Good read d t l → Good read d (on-rel l f t) l
-  unfolding on-rel
-  by-rel l h = elim l [ lit n ↦ λ g. g | name x ↦ λ g. g | class x ↦ λ g. g | string q ↦ λ g. g | sign s ↦ λ g. g | mul o ↦ λ g. g | rel r ↦ λ g. h r | fixed v ↦ λ g. g ]
+  by-string l h = elim l [ lit n ↦ λ g. g | name x ↦ λ g. g | class x ↦ λ g. g | string q ↦ λ g. h q | fixed v ↦ λ g. g ]

@@ -9,6 +9,8 @@ use native.Mathlib.Omega.{arith}
 use lib.Dec.{T, ltb}
 use lib.ListN.{getD}
 use borrow.Author.Tests.{ltb-true, ltb-false}
+use Rattle.base.specs.declared.Refusal.{Refusal}
+use Rattle.base.specs.declared.Refusal.the-variants.{NoProgram, TooDeep}
 use Rattle.base.specs.Answers.{Answer, given, refused}
 use Rattle.lexeme.specs.Lexemes.{Name, Lexeme, Placed}
 use Rattle.sentence.specs.Sentences.{Sen, command}
@@ -29,30 +31,30 @@ module _ (limit : ℕ) where
   Clean s [] = Unit {0}
   Clean s (l ∷ ls) = Fine l (step s l) × Clean (step s l) ls
 
-  pub data Wrong (l : Lexeme) (s : State) : ℕ → Type 0 where
-    none : (Alive s → ⊥) → Wrong l s 4
-    deep : T (opens l) → limit < nested-at l (verdict s) → Wrong l s 5
+  pub data Wrong (l : Lexeme) (s : State) : Refusal → Type 0 where
+    none : (Alive s → ⊥) → Wrong l s NoProgram
+    deep : T (opens l) → limit < nested-at l (verdict s) → Wrong l s TooDeep
 
-  -- from the state s on, the first wrong lexeme is wrong by n, at the place p
-  pub record Found (s : State) (ls : List Placed) (n p : ℕ) : Type 0 where
+  -- from the state s on, the first wrong lexeme is this one, at the place p
+  pub record Found (s : State) (ls : List Placed) (why : Refusal) (p : ℕ) : Type 0 where
     pub before : List Placed
     pub at : Placed
     pub after : List Placed
     pub split : before ++ at ∷ after ≡ ls
     pub place : at .place ≡ p
     pub clean : Clean s (whats before)
-    pub wrong : Wrong (at .what) (step (walk s (whats before) .state) (at .what)) n
+    pub wrong : Wrong (at .what) (step (walk s (whats before) .state) (at .what)) why
 
   -- without the end the lexemes may run out before a Program does
   unfoldable pub Answered : State → List Placed → Answer (Sen Name command) → Type 0
   Answered s ls (given m) = Clean s (whats ls) × (walk s (whats ls) .state ≡ whole m)
-  Answered s ls (refused n p) = Found s ls n p ⊎ (Clean s (whats ls) × T (going (verdict (walk s (whats ls) .state))))
+  Answered s ls (refused why p) = Found s ls why p ⊎ (Clean s (whats ls) × T (going (verdict (walk s (whats ls) .state))))
 
   next : (s : State) (l : Placed) (ls : List Placed) (a : Answer (Sen Name command)) → Fine (l .what) (step s (l .what)) → Answered (step s (l .what)) ls a → Answered s (l ∷ ls) a
   unfolding Answered Clean whats walk went
   next s l ls (given m) f r = ((f, r .0), r .1)
-  next s l ls (refused n p) f (inl r) = inl (record { before = l ∷ r .before; at = r .at; after = r .after; split = ap (λ xs. l ∷ xs) (r .split); place = r .place; clean = (f, r .clean); wrong = r .wrong })
-  next s l ls (refused n p) f (inr g) = inr ((f, g .0), g .1)
+  next s l ls (refused why p) f (inl r) = inl (record { before = l ∷ r .before; at = r .at; after = r .after; split = ap (λ xs. l ∷ xs) (r .split); place = r .place; clean = (f, r .clean); wrong = r .wrong })
+  next s l ls (refused why p) f (inr g) = inr ((f, g .0), g .1)
 
   nested-least : (l : Lexeme) (d : ℕ) → d ≤ nested-at l (goes-on d)
   unfolding nested-at
@@ -81,10 +83,10 @@ module _ (limit : ℕ) where
       fine : open-at (verdict to) ≤ limit → Alive to → Fine (l .what) to
       fine h a = record { alive = a; low = le-trans (good-step s (l .what) .shallow) (both-low (opens (l .what)) h o) }
 
-      found : {n : ℕ} → Wrong (l .what) to n → Found s (l ∷ ls) n (l .place)
+      found : {why : Refusal} → Wrong (l .what) to why → Found s (l ∷ ls) why (l .place)
       found w = record { before = []; at = l; after = ls; split = refl; place = refl; clean = tt; wrong = w }
 
-      test : (d : ℕ) → verdict to ≡ goes-on d → (b : Bool) → ltb limit d ≡ b → Answered s (l ∷ ls) (elim b [ true ↦ refused 5 (l .place) | false ↦ read-from limit to ls ])
+      test : (d : ℕ) → verdict to ≡ goes-on d → (b : Bool) → ltb limit d ≡ b → Answered s (l ∷ ls) (elim b [ true ↦ refused TooDeep (l .place) | false ↦ read-from limit to ls ])
       test d e true q =
           let h : limit < nested-at (l .what) (verdict to) = rw e (le-trans (ltb-true limit d q) (nested-least (l .what) d)) in
           inl (found (deep (first-deep (opens (l .what)) (open-at (verdict to)) (open-at (verdict s)) (le-trans h (good-step s (l .what) .shallow)) o) h))
@@ -93,7 +95,7 @@ module _ (limit : ℕ) where
           let a : Alive to = rw e tt in
           next s l ls (read-from limit to ls) (fine h a) (on h a)
 
-      go : (v : Verdict) → verdict to ≡ v → Answered s (l ∷ ls) (elim v [ goes-on d ↦ elim (ltb limit d) [ true ↦ refused 5 (l .place) | false ↦ read-from limit to ls ] | is-whole m ↦ read-from limit (whole m) ls | begins-none ↦ refused 4 (l .place) ])
+      go : (v : Verdict) → verdict to ≡ v → Answered s (l ∷ ls) (elim v [ goes-on d ↦ elim (ltb limit d) [ true ↦ refused TooDeep (l .place) | false ↦ read-from limit to ls ] | is-whole m ↦ read-from limit (whole m) ls | begins-none ↦ refused NoProgram (l .place) ])
       go (goes-on d) e = test d e (ltb limit d) refl
       go (is-whole m) e =
           let h : open-at (verdict to) ≤ limit = rw e zero-le in
@@ -106,7 +108,7 @@ module _ (limit : ℕ) where
   unfolding read-from Answered Settled Clean whats walk went alive-at going
   answered s [] o a = go (verdict s) refl
     where
-      go : (v : Verdict) → verdict s ≡ v → Answered s [] (elim v [ goes-on d ↦ refused 4 0 | is-whole m ↦ given m | begins-none ↦ refused 4 0 ])
+      go : (v : Verdict) → verdict s ≡ v → Answered s [] (elim v [ goes-on d ↦ refused NoProgram 0 | is-whole m ↦ given m | begins-none ↦ refused NoProgram 0 ])
       go (goes-on d) e = inr (tt, rw e tt)
       go (is-whole m) e = (tt, rw e at (settled s))
       go begins-none e = absurd (rw e at a)

@@ -1,3 +1,4 @@
+pub mod Operators
 pub mod Walk
 pub mod Had
 pub mod Steps

@@ -6,6 +6,8 @@ use Prim.Native.Nat.{ℕ, _<_, zero-le}
 use native.Mathlib.Omega.{arith}
 use lib.Dec.{T, T-not}
 use lib.ListN.{length}
+use Rattle.base.specs.declared.Refusal.{Refusal}
+use Rattle.base.specs.declared.Refusal.the-variants.{TooDeep}
 use Rattle.base.specs.Answers.{Answer, given, refused}
 use Rattle.lexeme.specs.Lexemes.{Name, Lexeme, Placed, fixed, end}
 use Rattle.lexeme.specs.Coded.{code-of}
@@ -53,25 +55,25 @@ module _ (limit : ℕ) where
   unfolding Too-deep Begins
   deep-begins before l d = (d .0, d .1, rw append-assoc (d .2))
 
-  fault-number : (before : List Lexeme) (l : Lexeme) {n n′ : ℕ} → Fault limit before l n → Fault limit before l n′ → n ≡ n′
-  fault-number before l (no-program f) (no-program g) = refl
-  fault-number before l (no-program f) (too-deep d) = absurd (f (deep-begins before l d))
-  fault-number before l (too-deep d) (no-program g) = absurd (g (deep-begins before l d))
-  fault-number before l (too-deep d) (too-deep e) = refl
+  fault-unique : (before : List Lexeme) (l : Lexeme) {why why′ : Refusal} → Fault limit before l why → Fault limit before l why′ → why ≡ why′
+  fault-unique before l (no-program f) (no-program g) = refl
+  fault-unique before l (no-program f) (too-deep d) = absurd (f (deep-begins before l d))
+  fault-unique before l (too-deep d) (no-program g) = absurd (g (deep-begins before l d))
+  fault-unique before l (too-deep d) (too-deep e) = refl
 
-  same-place : (ls : List Placed) {n p n′ p′ : ℕ} (r : Refused limit ls n p) (q : Refused limit ls n′ p′) → (r .before ≡ q .before) × (r .at ≡ q .at)
+  same-place : (ls : List Placed) {why why′ : Refusal} {p p′ : ℕ} (r : Refused limit ls why p) (q : Refused limit ls why′ p′) → (r .before ≡ q .before) × (r .at ≡ q .at)
   unfolding Faultless
-  same-place ls {n} {p} {n′} {p′} r q = go (places (r .before) (r .at) (r .after) (q .before) (q .at) (q .after) (r .split ∙ sym (q .split)))
+  same-place ls {why} {why′} r q = go (places (r .before) (r .at) (r .after) (q .before) (q .at) (q .after) (r .split ∙ sym (q .split)))
     where
       go : Places (r .before) (r .at) (q .before) (q .at) → (r .before ≡ q .before) × (r .at ≡ q .at)
       go (same e f) = (e, f)
-      go (earlier zs e) = absurd (q .leftmost (whats (r .before)) (whats zs) (r .at .what) n (whats-split (r .before) (r .at) zs (q .before) e) (r .fault))
-      go (later zs e) = absurd (r .leftmost (whats (q .before)) (whats zs) (q .at .what) n′ (whats-split (q .before) (q .at) zs (r .before) e) (q .fault))
+      go (earlier zs e) = absurd (q .leftmost (whats (r .before)) (whats zs) (r .at .what) why (whats-split (r .before) (r .at) zs (q .before) e) (r .fault))
+      go (later zs e) = absurd (r .leftmost (whats (q .before)) (whats zs) (q .at .what) why′ (whats-split (q .before) (q .at) zs (r .before) e) (q .fault))
 
-  pub refused-unique : {ls : List Placed} {n p n′ p′ : ℕ} → Refused limit ls n p → Refused limit ls n′ p′ → (n ≡ n′) × (p ≡ p′)
+  pub refused-unique : {ls : List Placed} {why why′ : Refusal} {p p′ : ℕ} → Refused limit ls why p → Refused limit ls why′ p′ → (why ≡ why′) × (p ≡ p′)
   refused-unique {ls} r q =
       let e = same-place ls r q in
-      (fault-number (whats (r .before)) (r .at .what) (r .fault) (rw (e .0, e .1) (q .fault)), sym (r .place) ∙ ap (λ (z : Placed). z .place) (e .1) ∙ q .place)
+      (fault-unique (whats (r .before)) (r .at .what) (r .fault) (rw (e .0, e .1) (q .fault)), sym (r .place) ∙ ap (λ (z : Placed). z .place) (e .1) ∙ q .place)
 
   -- ---- the reader's wrong lexemes are the paper's faults
 
@@ -88,7 +90,7 @@ module _ (limit : ℕ) where
   deep-alive l (is-whole m) h = tt
   deep-alive l begins-none h = absurd (omega arith)
 
-  wrong→fault : (before : List Lexeme) (l : Lexeme) {n : ℕ} → Wrong limit l (step (walk want-DO before .state) l) n → Fault limit before l n
+  wrong→fault : (before : List Lexeme) (l : Lexeme) {why : Refusal} → Wrong limit l (step (walk want-DO before .state) l) why → Fault limit before l why
   unfolding Too-deep Begins
   wrong→fault before l (none f) = no-program (λ b. f (rw step-after at (begins→alive (before ++ l ∷ []) b)))
   wrong→fault before l (deep o h) =
@@ -98,27 +100,27 @@ module _ (limit : ℕ) where
 
   clean→faultless : (ls : List Lexeme) → Clean limit want-DO ls → Faultless limit ls
   unfolding Faultless Too-deep
-  clean→faultless ls c before after l n e f = go f
+  clean→faultless ls c before after l why e f = go f
     where
       fine : Fine limit l (step (walk want-DO before .state) l)
       fine = clean-at limit want-DO before after l (rw e c)
 
-      go : {n : ℕ} → Fault limit before l n → ⊥
+      go : {why : Refusal} → Fault limit before l why → ⊥
       go (no-program g) = g (begins-at before l (fine .alive))
       go (too-deep d) = let e = numbered before (d .0) l (d .1) (d .2) in omega (arith, d .3, fine .low)
 
   program-faultless : (ls : List Lexeme) (m : Sen Name command) → Whole ls m → Shallow limit m → Faultless limit ls
   unfolding Faultless Too-deep Begins Shallow
-  program-faultless ls m w s before after l n e f = go f
+  program-faultless ls m w s before after l why e f = go f
     where
       v : Whole (before ++ l ∷ after) m
       v = rw e w
 
-      go : {n : ℕ} → Fault limit before l n → ⊥
+      go : {why : Refusal} → Fault limit before l why → ⊥
       go (no-program g) = g (after, m, rw append-assoc v)
       go (too-deep d) = omega (arith, numbered before (d .0) l (d .1) (d .2), numbered before after l m v, d .3, s (length before))
 
-  refusal : (ls : List Placed) {n p : ℕ} → Found limit want-DO ls n p → Refused limit ls n p
+  refusal : (ls : List Placed) {why : Refusal} {p : ℕ} → Found limit want-DO ls why p → Refused limit ls why p
   refusal ls r =
       record {
         before = r .before;
@@ -130,9 +132,9 @@ module _ (limit : ℕ) where
         leftmost = clean→faultless (whats (r .before)) (r .clean);
       }
 
-  refusal-faulty : (ls : List Placed) {n p : ℕ} → Refused limit ls n p → Faultless limit (whats ls) → ⊥
+  refusal-faulty : (ls : List Placed) {why : Refusal} {p : ℕ} → Refused limit ls why p → Faultless limit (whats ls) → ⊥
   unfolding Faultless
-  refusal-faulty ls {n} r f = f (whats (r .before)) (whats (r .after)) (r .at .what) n (whats-split (r .before) (r .at) (r .after) ls (r .split)) (r .fault)
+  refusal-faulty ls {why} r f = f (whats (r .before)) (whats (r .after)) (r .at .what) why (whats-split (r .before) (r .at) (r .after) ls (r .split)) (r .fault)
 
   -- ---- what is promised
 
@@ -156,41 +158,41 @@ module _ (limit : ℕ) where
     where
       go : Whole (whats ls) m → Shallow limit m → (a : Answer (Sen Name command)) → read limit ls ≡ a → a ≡ given m
       go w s (given n) e = ap given (unique (whats ls) n m (accepted ls n e .0) w)
-      go w s (refused n p) e = absurd (no (rw e at (answer ls)))
+      go w s (refused why p) e = absurd (no (rw e at (answer ls)))
         where
-          no : Answered limit want-DO ls (refused n p) → ⊥
+          no : Answered limit want-DO ls (refused why p) → ⊥
           no (inl r) = refusal-faulty ls (refusal ls r) (program-faultless (whats ls) m w s)
           no (inr g) = rw (walked (whats ls) m w) at (g .1)
 
   -- every list of lexemes of a text ends with the end, after which the reader does not go on
-  pub refuses : (ls init : List Placed) (p : ℕ) → ls ≡ init ++ record { place = p; what = fixed end } ∷ [] → (n q : ℕ) → (read limit ls ≡ refused n q) ↔ Refused limit ls n q
+  pub refuses : (ls init : List Placed) (p : ℕ) → ls ≡ init ++ record { place = p; what = fixed end } ∷ [] → (why : Refusal) (q : ℕ) → (read limit ls ≡ refused why q) ↔ Refused limit ls why q
   unfolding Answered is code-of whats
-  refuses ls init p f n q = (λ e. so n q (rw e at (answer ls)), λ r. back r (read limit ls) (answer ls))
+  refuses ls init p f why q = (λ e. so why q (rw e at (answer ls)), λ r. back r (read limit ls) (answer ls))
     where
       last : walk want-DO (whats ls) .state ≡ step (walk want-DO (whats init) .state) (fixed end)
       last = ap (λ xs. walk want-DO xs .state) (sym (whats-split init _ [] ls (sym f))) ∙ step-after (whats init) (fixed end)
 
-      so : (n q : ℕ) → Answered limit want-DO ls (refused n q) → Refused limit ls n q
-      so n q (inl r) = refusal ls r
-      so n q (inr g) = absurd (T-not (going (verdict (walk want-DO (whats ls) .state))) (rw last (good-step (walk want-DO (whats init) .state) (fixed end) .final)) (g .1))
+      so : (why : Refusal) (q : ℕ) → Answered limit want-DO ls (refused why q) → Refused limit ls why q
+      so why q (inl r) = refusal ls r
+      so why q (inr g) = absurd (T-not (going (verdict (walk want-DO (whats ls) .state))) (rw last (good-step (walk want-DO (whats init) .state) (fixed end) .final)) (g .1))
 
-      back : Refused limit ls n q → (a : Answer (Sen Name command)) → Answered limit want-DO ls a → a ≡ refused n q
+      back : Refused limit ls why q → (a : Answer (Sen Name command)) → Answered limit want-DO ls a → a ≡ refused why q
       back r (given m) c = absurd (refusal-faulty ls r (clean→faultless (whats ls) (c .0)))
-      back r (refused n′ q′) c = let same = refused-unique (so n′ q′ c) r in cc (same .0, same .1)
+      back r (refused why′ q′) c = let same = refused-unique (so why′ q′ c) r in cc (same .0, same .1)
 
   -- refusal 5 is at a lexeme that opens a nesting
-  pub opens-it : (ls : List Placed) (p : ℕ) (r : Refused limit ls 5 p) → T (opens (r .at .what))
+  pub opens-it : (ls : List Placed) (p : ℕ) (r : Refused limit ls TooDeep p) → T (opens (r .at .what))
   unfolding Answered refusal
   opens-it ls p r = go (read limit ls) (answer ls)
     where
       clean : Clean limit want-DO (whats ls) → T (opens (r .at .what))
       clean c = absurd (refusal-faulty ls r (clean→faultless (whats ls) c))
 
-      wrong : {n : ℕ} {l : Lexeme} {s : State} → Wrong limit l s n → n ≡ 5 → T (opens l)
-      wrong (none f) e = absurd (omega arith)
+      wrong : {why : Refusal} {l : Lexeme} {s : State} → Wrong limit l s why → why ≡ TooDeep → T (opens l)
+      wrong (none f) e = absurd (let z : _≡_ {A = ℕ} 0 1 = cc in omega arith)
       wrong (deep o h) e = o
 
       go : (a : Answer (Sen Name command)) → Answered limit want-DO ls a → T (opens (r .at .what))
       go (given m) c = clean (c .0)
-      go (refused n q) (inl f) = rw (same-place ls r (refusal ls f) .1) (wrong (f .wrong) (refused-unique (refusal ls f) r .0))
-      go (refused n q) (inr c) = clean (c .0)
+      go (refused why q) (inl f) = rw (same-place ls r (refusal ls f) .1) (wrong (f .wrong) (refused-unique (refusal ls f) r .0))
+      go (refused why q) (inr c) = clean (c .0)

@@ -1,17 +1,18 @@
 -- A walk of the reader: the state that it comes to and, for each lexeme, the nestings it stands in. Walking a sentence gives what Sentences.antt says of it.
 use mathlib.Core.Path.{_≡_, refl, ap}
 use mathlib.Core.List.{List, [], _∷_, _++_, append-assoc}
-use mathlib.Core.Bool.{Bool, cond, _||_}
+use mathlib.Core.Bool.{Bool, false, cond, _||_}
 use Prim.Native.Nat.{ℕ, suc}
-use Rattle.lexeme.specs.Coded.{code-of}
-use Rattle.lexeme.specs.Lexemes.{Name, Sign, Mul, Fixed, Lexeme, name, sign, mul, rel, fixed}
+use Rattle.lexeme.specs.Coded.{code-of, kind-of, fixed-number}
+use Rattle.lexeme.specs.Lexemes.{Name, Lexeme, name, fixed}
 use Rattle.lexeme.specs.Lexemes.{close-round, open-brace, close-brace, DO, ERROR, IF, INT, PRINTI, PRINTLNS, PRINTS, READ, THEN, WHILE, end}
-use Rattle.sentence.specs.Sentences.{Kind, Sen, factor, term, expression, condition, command, commands, literal, variable, bracket, first, multiply, unsigned, signed, add, negated, compare, print, print-line, print-string, declare, input, assign, error, while, when, block, single, then}
+use Rattle.sentence.specs.Sentences.{Sign, plus, minus, Mul, times, over, Rel, less, greater, equal, sign, mul, rel, Kind, Sen, factor, term, expression, condition, command, commands, literal, variable, bracket, first, multiply, unsigned, signed, add, negated, compare, print, print-line, print-string, declare, input, assign, error, while, when, block, single, then}
 use Rattle.sentence.specs.Sentences.{spell, program, nestings, program-nestings}
 use Rattle.sentence.specs.Reader.{Around, depth, in-first, in-multiply, in-unsigned, in-signed, in-add, in-bracket, in-left, in-right, in-print, in-assign, in-negated, in-while, in-when, in-while-body, in-when-body, in-block, in-block-after, in-program}
-use Rattle.sentence.specs.Reader.{State, want-DO, want-factor, want-expression, want-condition, want-command, got-term, got-command, whole}
-use Rattle.sentence.specs.Reader.{is, on, on-lit, on-name, on-string, on-sign, on-mul, on-rel, got-factor, at-factor, at-expression, at-condition, at-command, at-command-or-brace, after-command, after-condition, whole-expression, after-expression, whole-term, after-term, step}
+use Rattle.sentence.specs.Reader.{State, want-DO, want-factor, want-expression, want-condition, want-command, got-term, whole}
+use Rattle.sentence.specs.Reader.{is, on, on-lit, on-name, on-string, on-sign, on-mul, on-rel, is-sign, is-mul, got-factor, at-factor, at-expression, at-condition, at-command, at-command-or-brace, after-command, after-condition, whole-expression, after-expression, whole-term, after-term, step}
 use Rattle.sentence.specs.Reader.{Verdict, verdict, goes-on, is-whole, begins-none}
+use Rattle.sentence.proofs.Operators.{number-of, on-a-sign, on-no-sign, on-a-mul, on-no-mul, on-a-rel}
 
 -- ---- the walk
 
@@ -48,10 +49,10 @@ walk-append s (x ∷ xs) ys = ap (went x (step s x)) (walk-append (step s x) xs 
 
 -- the lexeme goes on no term; and no expression either
 abbrev No-mul : Lexeme → Type 0
-No-mul l = (f : Mul → State) (s : State) → on-mul l f s ≡ s
+No-mul l = is-mul (number-of l) ≡ false
 
 abbrev No-sign : Lexeme → Type 0
-No-sign l = (f : Sign → State) (s : State) → on-sign l f s ≡ s
+No-sign l = is-sign (number-of l) ≡ false
 
 abbrev walk-by : Lexeme → State → List Lexeme → Walked
 walk-by l s ls = went l s (walk s ls)
@@ -72,7 +73,7 @@ factor-open f (in-multiply t o k) = refl
 
 -- a term with no sign before it is read where an expression is wanted
 lead : (t : Sen Name term) (k : Around expression) (ls : List Lexeme) → walk (want-expression k) (spell t ++ ls) ≡ walk (want-factor (in-first (in-unsigned k))) (spell t ++ ls)
-unfolding walk step spell at-expression on-sign
+unfolding walk step spell at-expression on-sign on is code-of
 lead (first (literal n)) k ls = refl
 lead (first (variable x)) k ls = refl
 lead (first (bracket e)) k ls = refl
@@ -87,68 +88,84 @@ lead-condition-term (first (bracket e)) k ls = refl
 lead-condition-term (multiply t o f) k ls = rw append-assoc (lead-condition-term t k (mul o ∷ (spell f ++ ls)))
 
 lead-condition : (e : Sen Name expression) (k : Around condition) (ls : List Lexeme) → walk (want-condition k) (spell e ++ ls) ≡ walk (want-expression (in-left k)) (spell e ++ ls)
-unfolding walk step spell at-condition on is
+unfolding walk step spell sign at-condition on is code-of
 lead-condition (unsigned t) k ls = lead-condition-term t k ls
-lead-condition (signed s t) k ls = refl
+lead-condition (signed plus t) k ls = refl
+lead-condition (signed minus t) k ls = refl
 lead-condition (add e s t) k ls = rw append-assoc (lead-condition e k (sign s ∷ (spell t ++ ls)))
 
 -- a command's first lexeme goes on no term and no expression, and closes no block
-record Begun (m : Sen Name command) : Type 0 where
-  begin : Lexeme
-  rest : List Lexeme
-  same : spell m ≡ begin ∷ rest
-  no-mul : No-mul begin
-  no-sign : No-sign begin
-  no-brace : (s t : State) → on close-brace begin s t ≡ t
-
-by-word : (w : Fixed) (m : Sen Name command) (rest : List Lexeme) → spell m ≡ fixed w ∷ rest → ((s t : State) → on close-brace (fixed w) s t ≡ t) → Begun m
-unfolding on-mul on-sign
-by-word w m rest e b = record { begin = fixed w; rest = rest; same = e; no-mul = λ f s. refl; no-sign = λ f s. refl; no-brace = b }
+data Begun (m : Sen Name command) : Type 0 where
+  by : (l : Lexeme) (rest : List Lexeme) → spell m ≡ l ∷ rest → No-mul l → No-sign l → is close-brace l ≡ false → Begun m
 
 begun : (m : Sen Name command) → Begun m
-unfolding spell on is on-mul on-sign code-of
-begun (print e) = by-word PRINTI _ _ refl (λ s t. refl)
-begun (print-line q) = by-word PRINTLNS _ _ refl (λ s t. refl)
-begun (print-string q) = by-word PRINTS _ _ refl (λ s t. refl)
-begun (declare x) = by-word INT _ _ refl (λ s t. refl)
-begun (input x) = by-word READ _ _ refl (λ s t. refl)
-begun (assign x e) = record { begin = name x; rest = _; same = refl; no-mul = λ f s. refl; no-sign = λ f s. refl; no-brace = λ s t. refl }
-begun error = by-word ERROR _ _ refl (λ s t. refl)
-begun (while c m) = by-word WHILE _ _ refl (λ s t. refl)
-begun (when c m) = by-word IF _ _ refl (λ s t. refl)
-begun (block ms) = by-word open-brace _ _ refl (λ s t. refl)
+unfolding spell is is-mul is-sign kind-of fixed-number code-of
+begun (print e) = by (fixed PRINTI) _ refl refl refl refl
+begun (print-line q) = by (fixed PRINTLNS) _ refl refl refl refl
+begun (print-string q) = by (fixed PRINTS) _ refl refl refl refl
+begun (declare x) = by (fixed INT) _ refl refl refl refl
+begun (input x) = by (fixed READ) _ refl refl refl refl
+begun (assign x e) = by (name x) _ refl refl refl refl
+begun error = by (fixed ERROR) _ refl refl refl refl
+begun (while c m) = by (fixed WHILE) _ refl refl refl refl
+begun (when c m) = by (fixed IF) _ refl refl refl refl
+begun (block ms) = by (fixed open-brace) _ refl refl refl refl
+
+-- a sign goes on no term; a relation goes on no term and no expression
+sign-no-mul : (g : Sign) → No-mul (sign g)
+unfolding sign is-mul kind-of fixed-number code-of
+sign-no-mul g = elim g [ plus ↦ refl | minus ↦ refl ]
+
+rel-no-mul : (r : Rel) → No-mul (rel r)
+unfolding rel is-mul kind-of fixed-number code-of
+rel-no-mul r = elim r [ less ↦ refl | greater ↦ refl | equal ↦ refl ]
+
+rel-no-sign : (r : Rel) → No-sign (rel r)
+unfolding rel is-sign kind-of fixed-number code-of
+rel-no-sign r = elim r [ less ↦ refl | greater ↦ refl | equal ↦ refl ]
+
+-- no operator closes a nesting
+closes-mul : (o : Mul) → closes (mul o) ≡ false
+unfolding mul closes is code-of
+closes-mul o = elim o [ times ↦ refl | over ↦ refl ]
+
+closes-sign : (g : Sign) → closes (sign g) ≡ false
+unfolding sign closes is code-of
+closes-sign g = elim g [ plus ↦ refl | minus ↦ refl ]
+
+closes-rel : (r : Rel) → closes (rel r) ≡ false
+unfolding rel closes is code-of
+closes-rel r = elim r [ less ↦ refl | greater ↦ refl | equal ↦ refl ]
 
 reads : {k : Kind} (x : Sen Name k) → Reads k x
-unfolding Reads spell nestings depth walk went after nested-at closes verdict step at-factor at-expression at-condition at-command at-command-or-brace after-command after-condition whole-expression after-expression whole-term after-term got-factor on on-lit on-name on-string on-sign on-mul on-rel is code-of
+unfolding Reads spell nestings depth walk went after nested-at closes verdict step at-factor at-expression at-condition at-command at-command-or-brace after-command after-condition whole-expression after-expression whole-term after-term got-factor on on-lit on-name on-string on-sign on-mul on-rel is is-mul is-sign kind-of fixed-number code-of
 reads (literal n) = λ k ls. rw (factor-open (literal n) k)
 reads (variable x) = λ k ls. rw (factor-open (variable x) k)
-reads (bracket e) = λ k ls. simp append-assoc (rw (reads e (in-bracket k) (fixed close-round) ls (λ f s. refl), factor-open (bracket e) k))
+reads (bracket e) = λ k ls. simp append-assoc (rw (reads e (in-bracket k) (fixed close-round) ls refl, factor-open (bracket e) k))
 reads (first f) = λ k ls. reads f (in-first k) ls
-reads (multiply t o f) = λ k ls. simp append-assoc (rw (reads t k (mul o ∷ (spell f ++ ls)), reads f (in-multiply t o k) ls) refl)
-reads (unsigned t) = λ k l ls h. rw (lead t k (l ∷ ls), reads t (in-unsigned k) (l ∷ ls), h (λ o. want-factor (in-multiply t o (in-unsigned k))))
-reads (signed s t) = λ k l ls h. rw (reads t (in-signed s k) (l ∷ ls), h (λ o. want-factor (in-multiply t o (in-signed s k))))
-reads (add e s t) = λ k l ls h. simp append-assoc (rw (reads e k (sign s) (spell t ++ l ∷ ls) (λ f z. refl), reads t (in-add e s k) (l ∷ ls), h (λ o. want-factor (in-multiply t o (in-add e s k)))))
+reads (multiply t o f) = λ k ls. simp append-assoc (rw (reads t k (mul o ∷ (spell f ++ ls)), on-a-mul, closes-mul, reads f (in-multiply t o k) ls) refl)
+reads (unsigned t) = λ k l ls h. rw (lead t k (l ∷ ls), reads t (in-unsigned k) (l ∷ ls), on-no-mul)
+reads (signed s t) = λ k l ls h. rw (on-a-sign, closes-sign, reads t (in-signed s k) (l ∷ ls), on-no-mul)
+reads (add e s t) = λ k l ls h. simp append-assoc (rw (reads e k (sign s) (spell t ++ l ∷ ls) (sign-no-mul s), on-a-sign, closes-sign, reads t (in-add e s k) (l ∷ ls), on-no-mul))
 reads (negated c) = λ k l ls h g. rw (reads c (in-negated k) l ls h g) refl
-reads (compare d r e) = λ k l ls h g. simp append-assoc (rw (lead-condition d k (rel r ∷ (spell e ++ l ∷ ls)), reads d (in-left k) (rel r) (spell e ++ l ∷ ls) (λ f s. refl), reads e (in-right d r k) l ls h, g (λ s. want-factor (in-first (in-add e s (in-right d r k))))))
-reads (print e) = λ k l ls h g. rw (reads e (in-print k) l ls h, g (λ s. want-factor (in-first (in-add e s (in-print k)))))
+reads (compare d r e) = λ k l ls h g. simp append-assoc (rw (lead-condition d k (rel r ∷ (spell e ++ l ∷ ls)), reads d (in-left k) (rel r) (spell e ++ l ∷ ls) (rel-no-mul r), on-no-sign _ _ (rel r) (rel-no-sign r), on-a-rel, closes-rel, reads e (in-right d r k) l ls h, on-no-sign))
+reads (print e) = λ k l ls h g. rw (reads e (in-print k) l ls h, on-no-sign)
 reads (print-line q) = λ k l ls h g. refl
 reads (print-string q) = λ k l ls h g. refl
 reads (declare x) = λ k l ls h g. refl
 reads (input x) = λ k l ls h g. refl
-reads (assign x e) = λ k l ls h g. rw (reads e (in-assign x k) l ls h, g (λ s. want-factor (in-first (in-add e s (in-assign x k)))))
+reads (assign x e) = λ k l ls h g. rw (reads e (in-assign x k) l ls h, on-no-sign)
 reads error = λ k l ls h g. refl
-reads (while c m) = λ k l ls h g. simp append-assoc (rw (reads c (in-while k) (fixed DO) (spell m ++ l ∷ ls) (λ f s. refl) (λ f s. refl), reads m (in-while-body c k) l ls h g))
-reads (when c m) = λ k l ls h g. simp append-assoc (rw (reads c (in-when k) (fixed THEN) (spell m ++ l ∷ ls) (λ f s. refl) (λ f s. refl), reads m (in-when-body c k) l ls h g))
-reads (block ms) = λ k l ls h g. simp append-assoc (rw (reads ms k (fixed close-brace) (l ∷ ls) (λ f s. refl) (λ f s. refl)))
+reads (while c m) = λ k l ls h g. simp append-assoc (rw (reads c (in-while k) (fixed DO) (spell m ++ l ∷ ls) refl refl, reads m (in-while-body c k) l ls h g))
+reads (when c m) = λ k l ls h g. simp append-assoc (rw (reads c (in-when k) (fixed THEN) (spell m ++ l ∷ ls) refl refl, reads m (in-when-body c k) l ls h g))
+reads (block ms) = λ k l ls h g. simp append-assoc (rw (reads ms k (fixed close-brace) (l ∷ ls) refl refl))
 reads (single m) = λ k l ls h g. reads m (in-block k) l ls h g
-reads (then ms m) = λ k l ls h g.
-    let b = begun m in
-    let on-m = rw (b .same) at (reads m (in-block-after ms k) l ls h g) in
-    simp append-assoc
-    (rw (b .same, reads ms k (b .begin) (b .rest ++ l ∷ ls) (b .no-mul) (b .no-sign), b .no-brace (got-command (block ms) k) (at-command (in-block-after ms k) (b .begin)))
-    (ap (after (nestings (suc (depth k)) ms)) on-m))
+reads (then ms m) = λ k l ls h g. elim (begun m) [
+  | by b rest e x y z ↦
+      simp append-assoc (rw (e, reads ms k b (rest ++ l ∷ ls) x y, z) (ap (after (nestings (suc (depth k)) ms)) (rw e at (reads m (in-block-after ms k) l ls h g))))
+]
 
 -- every Program is read, and its lexemes stand in the nestings that Sentences.antt says
 pub complete : (m : Sen Name command) → walk want-DO (program m ++ fixed end ∷ []) ≡ record { state = whole m; nested = program-nestings m ++ 0 ∷ [] }
-unfolding Reads program program-nestings walk went after nested-at closes verdict depth step after-command on on-mul on-sign is code-of
-complete m = rw (reads m in-program (fixed end) [] (λ f s. refl) (λ f s. refl))
+unfolding Reads program program-nestings walk went after nested-at closes verdict depth step after-command on is is-mul is-sign kind-of fixed-number code-of
+complete m = rw (reads m in-program (fixed end) [] refl refl)

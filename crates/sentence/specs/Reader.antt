@@ -1,12 +1,12 @@
 -- The reader of sentences: a state, changed by one lexeme at a time. A state holds what is open around the place reached, with the parts already read.
 -- It works out what document 01 says of refusals 4 and 5; `proofs/` shows that it accepts the Programs and refuses exactly as Grammar.antt says.
 use mathlib.Core.List.{List, [], _∷_}
-use mathlib.Core.Bool.{Bool, true, false, cond}
+use mathlib.Core.Bool.{Bool, true, false, cond, _||_}
 use Prim.Native.Nat.{ℕ, zero, suc}
 use lib.Dec.{ltb, eqb}
+use Rattle.base.specs.declared.Refusal.the-variants.{NoProgram, TooDeep}
 use Rattle.base.specs.Answers.{Answer, given, refused}
 use Rattle.lexeme.specs.Coded.{code-of}
-use Rattle.base.specs.declared.Refusal.the-variants.{NoProgram, TooDeep}
 use Rattle.lexeme.specs.Lexemes.{Name, Quoted, Fixed, Lexeme, Placed, lit, name, class, string, fixed}
 use Rattle.lexeme.specs.Lexemes.{plus-sign, minus-sign, star, slash, less-sign, greater-sign, equals-sign, open-round, close-round, open-brace, close-brace, becomes, DO, ERROR, IF, INT, NOT, PRINTI, PRINTLNS, PRINTS, READ, THEN, WHILE, end}
 use Rattle.sentence.specs.Sentences.{Sign, plus, minus, Mul, times, over, Rel, less, greater, equal, Kind, Sen, factor, term, expression, condition, command, commands, literal, variable, bracket, first, multiply, unsigned, signed, add, negated, compare, print, print-line, print-string, declare, input, assign, error, while, when, block, single, then}
@@ -113,6 +113,16 @@ on-mul l such other = on star l (such times) (on slash l (such over) other)
 
 unfoldable pub on-rel : Lexeme → (Rel → State) → State → State
 on-rel l such other = on less-sign l (such less) (on greater-sign l (such greater) (on equals-sign l (such equal) other))
+
+-- the same by the number of a fixed lexeme
+unfoldable pub is-sign : ℕ → Bool
+is-sign n = eqb n (code-of plus-sign) || eqb n (code-of minus-sign)
+
+unfoldable pub is-mul : ℕ → Bool
+is-mul n = eqb n (code-of star) || eqb n (code-of slash)
+
+unfoldable pub is-rel : ℕ → Bool
+is-rel n = eqb n (code-of less-sign) || (eqb n (code-of greater-sign) || eqb n (code-of equals-sign))
 
 -- ---- where a construct is wanted
 

@@ -19,13 +19,13 @@ use Rattle.bench.proofs.yield_as_expected.Tie as tie
 returns : tie.Need-returns
 returns c =
     unfold
-    Answers.pass
+    Answers.number Answers.pass
     Bytes.bytes-from Bytes.bytes Bytes.separator Bytes.small Bytes.capital Bytes.letter Bytes.digit Bytes.letter-or-digit Bytes.no-quote Bytes.run Bytes.all Bytes.same Bytes.value
     Coded.code-of
-    Lexemes.found Lexemes.keywords Lexemes.capital-word Lexemes.starts-small Lexemes.letter-word Lexemes.digit-word Lexemes.word Lexemes.string-at Lexemes.symbols Lexemes.symbol Lexemes.colon Lexemes.here Lexemes.next Lexemes.lexemes-from Lexemes.lexemes
+    Lexemes.found Lexemes.keywords Lexemes.capital-word Lexemes.starts-small Lexemes.letter-word Lexemes.word Lexemes.string-at Lexemes.symbols Lexemes.symbol Lexemes.colon Lexemes.here Lexemes.next Lexemes.too-large Lexemes.sized Lexemes.lexemes-from Lexemes.lexemes
     Sentences.program Sentences.program-nestings
     Reader.depth Reader.is Reader.on Reader.on-lit Reader.on-name Reader.on-string Reader.on-sign Reader.on-mul Reader.on-rel Reader.got-factor Reader.at-factor Reader.at-expression Reader.at-condition Reader.at-command Reader.at-command-or-brace Reader.after-command Reader.after-condition Reader.whole-expression Reader.after-expression Reader.whole-term Reader.after-term Reader.step Reader.verdict Reader.read-from Reader.read
-    Names._>>=_ Names.give Names.look-up Names.used Names.one-more Names.declared-here Names.scoped Names.resolve Names.resolved
+    Names._>>=_ Names.give Names.look-up Names.used Names.one-more Names.declared-here Names.opened Names.closed Names.scoped Names.resolve Names.resolved
     Numbers.in-range Numbers.is-false Numbers.truth Numbers.calculate Numbers.negation Numbers.digits Numbers.decimal
     Instructions.alone Instructions.natural Instructions.halting Instructions.operation Instructions.decode Instructions.number Instructions.pair Instructions.numbers
     Machine.string-from Machine.reading Machine.one-used Machine.printed Machine.peek Machine.poke Machine.pushed Machine.resulting Machine.pairs Machine.jumped Machine.taken Machine.written Machine.quoted Machine.does Machine.decoded Machine.fetched Machine.step Machine.run Machine.report Machine.bad-table Machine.whole-run Machine.stack-after Machine.room-after
