@@ -65,8 +65,9 @@ fn is_named(text: &[u8], names: &[usize], k: usize, word: &[u8]) -> bool
     requires { ⌜ k < length (now names) / 4 ⌝ }
     ensures { λ r. ⌜ r ≡ same (held (now (text .entry)) (now (names .entry)) k .letters) (now (word .entry)) ⌝ }
 {
-    let p = names[k * 4];
-    let e = names[k * 4 + 1];
+    let at = k * 4;
+    let p = names[at];
+    let e = names[at + 1];
     if is_other(text, p, e, word) {
         return false;
     }
@@ -93,10 +94,11 @@ fn enter(names: &mut [usize], k: usize, p: usize, e: usize, cell: usize, block: 
     requires { ⌜ k < length (now names) / 4 ⌝ }
     ensures { λ _. ⌜ now (names .exit) ≡ sets (now (names .entry)) (k * 4) (p ∷ e ∷ cell ∷ block ∷ []) ⌝ }
 {
-    names[k * 4] = p;
-    names[k * 4 + 1] = e;
-    names[k * 4 + 2] = cell;
-    names[k * 4 + 3] = block;
+    let at = k * 4;
+    names[at] = p;
+    names[at + 1] = e;
+    names[at + 2] = cell;
+    names[at + 3] = block;
 }
 
 fn with_one_more(s: Scope) -> Scope

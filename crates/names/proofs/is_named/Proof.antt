@@ -1,27 +1,23 @@
 -- `names::is_named` meets its contract. Assumes nothing.
-use mathlib.Core.Path.{_∙_}
-use Rattle.names.specs.Held.{held}
 use borrow.Author.Needs.{needs}
+use Rattle.names.specs.Held.{held}
 use Rattle.names.proofs.is_named.Statement.{statement}
 use Rattle.names.proofs.is_named.Tie as tie
+
+mul-at : tie.Need-mul-at
+mul-at c = search needs
 
 mul-p : tie.Need-mul-p
 mul-p c = search needs
 
-mul-p-2 : tie.Need-mul-p-2
-mul-p-2 c = search needs
-
 shared-slice-read-p : tie.Need-shared-slice-read-p
 shared-slice-read-p c = search needs
-
-mul-e : tie.Need-mul-e
-mul-e c = search needs
 
 add-e : tie.Need-add-e
 add-e c = search needs
 
-mul-e-2 : tie.Need-mul-e-2
-mul-e-2 c = search needs
+mul-e : tie.Need-mul-e
+mul-e c = search needs
 
 shared-slice-read-e : tie.Need-shared-slice-read-e
 shared-slice-read-e c = search needs
@@ -47,12 +43,11 @@ pub is-named-spec : {M : Type 1} → statement M
 is-named-spec =
     tie.close
     (tie.spec
+    mul-at
     mul-p
-    mul-p-2
     shared-slice-read-p
-    mul-e
     add-e
-    mul-e-2
+    mul-e
     shared-slice-read-e
     is-other-requires
     returns

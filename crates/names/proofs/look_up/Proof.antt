@@ -3,7 +3,6 @@ use Prim.Native.Nat.{_≤_, _/_}
 use mathlib.Core.Path.{_≡_, refl, sym, _∙_}
 use native.Mathlib.Omega.{arith}
 use borrow.Author.Needs.{needs}
-use denote.Ref.{now}
 use lib.ListN.{length}
 use Rattle.names.specs.Held.{held, visible-in, found}
 use Rattle.names.proofs.Found.{found-room, found-none, found-last, found-before}
@@ -45,16 +44,16 @@ shared-slice-read-t16 c = omega arith
 
 returns : tie.Need-returns Inv-loop μ-loop
 unfolding held
-returns c = found-last (now (c .before .before .before .before .before .before .before .before .before .args .text)) (now (c .before .before .before .before .before .before .before .before .before .args .names)) _ (c .before .before .before .before .loop .k) (omega arith) (omega arith) (sym (c .before .before .is-named .ensures) ∙ c .before .if1 .taken) ∙ (c .before .before .before .before .loop .inv .1 ∙ found-room (now (c .before .before .before .before .before .before .before .before .before .args .text)) (now (c .before .before .before .before .before .before .before .before .before .args .names)) (c .before .before .before .before .before .before .before .before .before .args .s .visible) (c .before .before .before .before .before .smaller .result) _ _ (c .before .before .before .before .before .smaller .ensures) (c .before .before .before .before .before .before .part .ensures))
+returns c = found-last _ _ _ (c .before .before .before .before .loop .k) (omega arith) (omega arith) (sym (c .before .before .is-named .ensures) ∙ c .before .if1 .taken) ∙ (c .before .before .before .before .loop .inv .1 ∙ found-room _ _ _ _ _ _ (c .before .before .before .before .before .smaller .ensures) (c .before .before .before .before .before .before .part .ensures))
 
 loop-less : tie.Need-loop-less Inv-loop μ-loop
 loop-less c = omega arith
 
 loop-again : tie.Need-loop-again Inv-loop μ-loop
-loop-again c = (omega arith, found-before (now (c .before .before .before .before .before .before .before .before .args .text)) (now (c .before .before .before .before .before .before .before .before .args .names)) _ (c .before .before .before .loop .k) (omega arith) (omega arith) (sym (c .before .is-named .ensures) ∙ c .if1 .left) ∙ c .before .before .before .loop .inv .1)
+loop-again c = (omega arith, found-before _ _ _ (c .before .before .before .loop .k) (omega arith) (omega arith) (sym (c .before .is-named .ensures) ∙ c .if1 .left) ∙ c .before .before .before .loop .inv .1)
 
 returns-2 : tie.Need-returns-2 Inv-loop μ-loop
-returns-2 c = found-none (now (c .before .before .before .before .before .before .args .text)) (now (c .before .before .before .before .before .before .args .names)) _ (c .before .loop .k) (omega arith) ∙ (c .before .loop .inv .1 ∙ found-room (now (c .before .before .before .before .before .before .args .text)) (now (c .before .before .before .before .before .before .args .names)) (c .before .before .before .before .before .before .args .s .visible) (c .before .before .smaller .result) _ _ (c .before .before .smaller .ensures) (c .before .before .before .part .ensures))
+returns-2 c = found-none _ _ _ (c .before .loop .k) (omega arith) ∙ (c .before .loop .inv .1 ∙ found-room _ _ _ _ _ _ (c .before .before .smaller .ensures) (c .before .before .before .part .ensures))
 
 pub look-up-spec : {M : Type 1} → statement M
 look-up-spec =
