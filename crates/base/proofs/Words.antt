@@ -1,16 +1,16 @@
--- Laws of words: that two are the same, and what a digit word is worth. Assumes nothing.
+-- Laws of words: that two are the same, what a digit word is worth, and parts of a text. Assumes nothing.
 use mathlib.Core.Path.{_≡_, refl, sym, ap, _∙_}
 use mathlib.Core.List.{List, [], _∷_}
 use mathlib.Core.Bool.{Bool, true, false}
-use Prim.Native.Nat.{ℕ, suc, _+_, _-_, _*_, _≤_, _<_}
+use Prim.Native.Nat.{ℕ, suc, _+_, _-_, _*_, _≤_, _<_, min}
 use native.Mathlib.Nat.{le-refl}
 use native.Mathlib.Numerals.{add-one}
-use native.Mathlib.Omega.{arith}
+use native.Mathlib.Omega.{arith, min-cases}
 use lib.Dec.{eqb}
-use lib.ListN.{length, getD, drop, drop-of-length-le}
-use lib.Seq.{drop-cons}
+use lib.ListN.{length, getD, take, drop, length-drop, drop-of-length-le}
+use lib.Seq.{drop-cons, take-all}
 use borrow.Author.Tests.{eq-eqb, ne-eqb}
-use Rattle.base.specs.Bytes.{same, value}
+use Rattle.base.specs.Bytes.{same, value, part}
 
 -- two words after the test of their first bytes
 abbrev after : List ℕ → List ℕ → Bool → Bool
@@ -55,3 +55,11 @@ pub value-grows : (n : ℕ) (w : List ℕ) → n ≤ value n w
 unfolding value
 value-grows n [] = le-refl n
 value-grows n (b ∷ w) = omega (arith, value-grows (n * 10 + (b - 48)) w)
+
+-- a part ends where the text does
+pub part-end : (text : List ℕ) (p e : ℕ) → take (min e (length text) - p) (drop p text) ≡ part text p e
+unfolding part
+part-end text p e = min-cases e (length text) _ (λ h q. rw q) (λ h q. let n : length (drop p text) ≤ e - p = omega (arith, length-drop p text) in rw (q, take-all (e - p) (drop p text) n) (take-all (length text - p) (drop p text) (omega (arith, length-drop p text))))
+
+pub part-none : (text : List ℕ) (p e : ℕ) → min e (length text) ≤ p → [] ≡ part text p e
+part-none text p e h = let n : min e (length text) - p ≡ 0 = omega arith in rw n at (part-end text p e)

@@ -103,7 +103,7 @@ pub fn is_all(word: &[u8], kind: Such) -> bool
     run_end(word, 0, kind) == word.len()
 }
 
-fn smaller(a: usize, b: usize) -> usize
+pub fn smaller(a: usize, b: usize) -> usize
     ensures { λ r. ⌜ r ≡ min a b ⌝ }
 {
     if a < b { a } else { b }

@@ -1,1 +1,3 @@
 pub mod Resolved
+pub mod Held
+pub mod Found

@@ -26,7 +26,7 @@ visible-in text names (suc k) = cond (ltb k (length names / 4)) (held text names
 
 -- the scope that the code holds
 unfoldable pub scope-in : List ℕ → List ℕ → Scope → N.Scope
-scope-in text names s = record { visible = visible-in text names (s .visible); declared = s .declared; next-cell = s .next-cell; cells = s .cells; blocks = s .blocks }
+scope-in text names s = record { visible = visible-in text names (s .visible); declared = s .declared; next-cell = s .«next_cell»; cells = s .cells; blocks = s .blocks }
 
 -- ---- a use
 
@@ -42,11 +42,11 @@ unfoldable pub counted : ℕ → ℕ
 counted n = min (suc n) 18446744073709551615
 
 unfoldable pub declared-scope : Scope → Scope
-declared-scope s = record { visible = counted (s .visible); declared = counted (s .declared); next-cell = counted (s .next-cell); cells = counted (s .cells); blocks = s .blocks }
+declared-scope s = record { visible = counted (s .visible); declared = counted (s .declared); «next_cell» = counted (s .«next_cell»); cells = counted (s .cells); blocks = s .blocks }
 
 -- the list with the declaration of the name from p up to e, if it has room
 unfoldable pub entered : List ℕ → Scope → ℕ → ℕ → List ℕ
-entered names s p e = cond (ltb (s .visible) (length names / 4)) (sets names (s .visible * 4) (p ∷ e ∷ s .next-cell ∷ s .blocks ∷ [])) names
+entered names s p e = cond (ltb (s .visible) (length names / 4)) (sets names (s .visible * 4) (p ∷ e ∷ s .«next_cell» ∷ s .blocks ∷ [])) names
 
 -- one declaration more, or as many as the list may have
 unfoldable pub Declares : List ℕ → Scope → ℕ → ℕ → Declared → List ℕ → Type 0
@@ -56,17 +56,17 @@ Declares names s p e TooMany names′ = (length names / 4 ≤ s .declared) × (n
 -- ---- a block
 
 unfoldable pub opened-scope : Scope → Scope
-opened-scope s = record { visible = s .visible; declared = s .declared; next-cell = s .next-cell; cells = s .cells; blocks = counted (s .blocks) }
+opened-scope s = record { visible = s .visible; declared = s .declared; «next_cell» = s .«next_cell»; cells = s .cells; blocks = counted (s .blocks) }
 
 unfoldable pub closed-scope : Scope → Scope → Scope
-closed-scope before s = record { visible = before .visible; declared = s .declared; next-cell = s .next-cell; cells = s .cells; blocks = before .blocks }
+closed-scope before s = record { visible = before .visible; declared = s .declared; «next_cell» = s .«next_cell»; cells = s .cells; blocks = before .blocks }
 
 -- ---- what stays so
 
 -- the counts are those of a text's scope, in a list with room for them
 pub record Sound (names : List ℕ) (s : Scope) : Type 0 where
   pub visible : s .visible ≤ s .declared
-  pub next-cell : s .next-cell ≤ s .declared
+  pub next-cell : s .«next_cell» ≤ s .declared
   pub cells : s .cells ≤ s .declared
   pub declared : s .declared ≤ length names / 4
   pub blocks : s .blocks ≤ 1000000

@@ -1,10 +1,12 @@
 // Scopes: what is visible at a place of a text, and the cells of its names. The declarations stand in a lent list, four numbers for each: the place of its name, the place after it, its cell, and its block.
 ghost use mathlib.Core.Path.{_≡_};
 ghost use mathlib.Core.List.{[], _∷_};
-ghost use Prim.Native.Nat.{_+_, _*_, _/_, _<_, suc, min};
-ghost use lib.ListN.{length, getD};
+ghost use mathlib.Core.Bool.{true, false};
+ghost use Prim.Native.Nat.{_*_, _/_, _<_};
+ghost use lib.ListN.{length};
+ghost use lib.Seq.{sets};
 ghost use Rattle.base.specs.Bytes.{part, same};
-ghost use Rattle.names.specs.Held.{counted, held, visible-in, found, entered, Declares, opened-scope, closed-scope};
+ghost use Rattle.names.specs.Held.{counted, held, visible-in, found, declared-scope, Declares, opened-scope, closed-scope};
 
 pub struct Scope {
     // The declarations still visible: so many of the list.
@@ -42,13 +44,33 @@ fn one_more(n: usize) -> usize
     n
 }
 
-// Whether the k-th declaration of the list has these letters. Its length is compared first.
+// Whether the part of the text from p up to e differs from the word in its length or its first letter. Where it is beyond the text, that is not said.
+fn is_other(text: &[u8], p: usize, e: usize, word: &[u8]) -> bool
+    ensures { λ r. ⌜ (r ≡ true → false ≡ same (part (now (text .entry)) p e) (now (word .entry))) ⌝ }
+{
+    if e <= p {
+        return false;
+    }
+    if text.len() < e {
+        return false;
+    }
+    if e - p != word.len() {
+        return true;
+    }
+    text[p] != word[0]
+}
+
+// Whether the k-th declaration of the list has these letters. Most have others, which is seen without a loop.
 fn is_named(text: &[u8], names: &[usize], k: usize, word: &[u8]) -> bool
     requires { ⌜ k < length (now names) / 4 ⌝ }
     ensures { λ r. ⌜ r ≡ same (held (now (text .entry)) (now (names .entry)) k .letters) (now (word .entry)) ⌝ }
 {
-    let p = names[k * 4];
-    let e = names[k * 4 + 1];
+    let at = k * 4;
+    let p = names[at];
+    let e = names[at + 1];
+    if is_other(text, p, e, word) {
+        return false;
+    }
     base::is_same(base::part(text, p, e), word)
 }
 
@@ -57,17 +79,38 @@ pub fn look_up(text: &[u8], names: &[usize], s: Scope, p: usize, e: usize) -> Ce
     ensures { λ r. ⌜ r ≡ found (visible-in (now (text .entry)) (now (names .entry)) (s .visible)) (part (now (text .entry)) p e) ⌝ }
 {
     let word = base::part(text, p, e);
-    let room = names.len() / 4;
-    let mut k = s.visible;
+    let mut k = base::smaller(s.visible, names.len() / 4);
     while 0 < k {
         k -= 1;
-        if k < room {
-            if is_named(text, names, k, word) {
-                return Cell::At(names[k * 4 + 2]);
-            }
+        if is_named(text, names, k, word) {
+            return Cell::At(names[k * 4 + 2]);
         }
     }
     Cell::Nowhere
+}
+
+// The k-th declaration of the list becomes that of the name from p up to e.
+fn enter(names: &mut [usize], k: usize, p: usize, e: usize, cell: usize, block: usize)
+    requires { ⌜ k < length (now names) / 4 ⌝ }
+    ensures { λ _. ⌜ now (names .exit) ≡ sets (now (names .entry)) (k * 4) (p ∷ e ∷ cell ∷ block ∷ []) ⌝ }
+{
+    let at = k * 4;
+    names[at] = p;
+    names[at + 1] = e;
+    names[at + 2] = cell;
+    names[at + 3] = block;
+}
+
+fn with_one_more(s: Scope) -> Scope
+    ensures { λ r. ⌜ r ≡ declared-scope s ⌝ }
+{
+    Scope {
+        visible: one_more(s.visible),
+        declared: one_more(s.declared),
+        next_cell: one_more(s.next_cell),
+        cells: one_more(s.cells),
+        blocks: s.blocks,
+    }
 }
 
 // One declaration more, of the name from the place p up to e; or there are too many.
@@ -78,20 +121,13 @@ pub fn declare(names: &mut [usize], s: Scope, p: usize, e: usize) -> Declared
     if room <= s.declared {
         return Declared::TooMany;
     }
+    let t = with_one_more(s);
     let k = s.visible;
     if k < room {
-        names[k * 4] = p;
-        names[k * 4 + 1] = e;
-        names[k * 4 + 2] = s.next_cell;
-        names[k * 4 + 3] = s.blocks;
+        enter(names, k, p, e, s.next_cell, s.blocks);
+        return Declared::Is(t);
     }
-    Declared::Is(Scope {
-        visible: one_more(k),
-        declared: one_more(s.declared),
-        next_cell: one_more(s.next_cell),
-        cells: one_more(s.cells),
-        blocks: s.blocks,
-    })
+    Declared::Is(t)
 }
 
 // The scope after an opening brace.

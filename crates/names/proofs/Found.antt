@@ -1,0 +1,76 @@
+-- Laws of looking a name up in the lent list. Assumes nothing.
+use mathlib.Core.Path.{_≡_, refl, sym, ap, _∙_}
+use mathlib.Core.List.{List, [], _∷_}
+use mathlib.Core.Bool.{Bool, true, false, cond}
+use Prim.Native.Nat.{ℕ, zero, suc, _-_, _/_, _≤_, _<_, min}
+use native.Mathlib.Nat.{add-zero}
+use native.Mathlib.Omega.{arith}
+use lib.Dec.{ltb}
+use lib.ListN.{length, getD, drop, length-take, length-drop}
+use lib.Seq.{getD-take, getD-drop}
+use borrow.Author.Tests.{lt-ltb, ltb-true, ltb-false}
+use Rattle.base.specs.Bytes.{part, same}
+use Rattle.base.proofs.Words.{same-long, same-stop}
+use Rattle.names.specs.Names.{Declaration}
+use Rattle.names.specs.Held.{held, visible-in, found}
+use Rattle.names.specs.declared.Cell.{Cell}
+use Rattle.names.specs.declared.Cell.the-variants.{At, Nowhere}
+
+-- a part that the text has all of, beside a word of another length, or with another first letter
+module _ (text : List ℕ) (p e : ℕ) (word : List ℕ) (some : p < e) (fits : e ≤ length text) where
+  part-length : length (part text p e) ≡ e - p
+  unfolding part
+  part-length = simp (length-take, length-drop) (omega arith)
+
+  pub other-length : (e - p ≡ length word → ⊥) → false ≡ same (part text p e) word
+  other-length n = same-long (part text p e) word (λ h. n (sym part-length ∙ h))
+
+  pub other-letter : 0 < length word → (getD text p 0 ≡ getD word 0 0 → ⊥) → false ≡ same (part text p e) word
+  unfolding part
+  other-letter h n = same-stop (part text p e) word 0 (omega (arith, part-length)) h (λ q. n (sym first ∙ q))
+    where
+      first : getD (part text p e) 0 0 ≡ getD text p 0
+      first = getD-take (e - p) (drop p text) 0 0 (omega arith) ∙ (getD-drop p text 0 0 ∙ rw add-zero)
+
+-- the cell of a list's first declaration, or of a later one
+abbrev picked : Declaration → List Declaration → List ℕ → Bool → Cell
+picked d ds word t = elim t [ true ↦ At (d .cell) | false ↦ found ds word ]
+
+module _ (text names : List ℕ) where
+  abbrev room : ℕ
+  room = length names / 4
+
+  pub visible-suc : (k : ℕ) → k < room → visible-in text names (suc k) ≡ held text names k ∷ visible-in text names k
+  unfolding visible-in
+  visible-suc k h = rw (lt-ltb k room h)
+
+  -- beyond the list there are no declarations
+  visible-room : (v : ℕ) → visible-in text names (min v room) ≡ visible-in text names v
+  unfolding visible-in
+  visible-room zero = let z : min zero room ≡ zero = omega arith in rw z
+  visible-room (suc v) = by (visible-room v) (ltb v room) refl
+    where
+      by : visible-in text names (min v room) ≡ visible-in text names v → (b : Bool) → ltb v room ≡ b → visible-in text names (min (suc v) room) ≡ cond b (held text names v ∷ visible-in text names v) (visible-in text names v)
+      by i true h = let m : min (suc v) room ≡ suc v = omega (arith, ltb-true v room h) in rw m (rw h)
+      by i false h = let m : min (suc v) room ≡ min v room = omega (arith, ltb-false v room h) in rw m i
+
+  pub found-room : (v k : ℕ) (word letters : List ℕ) → k ≡ min v room → word ≡ letters → found (visible-in text names k) word ≡ found (visible-in text names v) letters
+  found-room v k word letters h e = rw (h, e, visible-room v)
+
+  pub found-none : (word : List ℕ) (k : ℕ) → k ≤ 0 → Nowhere ≡ found (visible-in text names k) word
+  unfolding visible-in found
+  found-none word k h = let z : k ≡ 0 = omega arith in rw z
+
+  -- a loop that goes down to the first declaration, at the k-th
+  module _ (word : List ℕ) (k : ℕ) (some : 0 < k) (fits : k ≤ room) where
+    last-visible : (t : Bool) → same (held text names (k - 1) .letters) word ≡ t → found (visible-in text names k) word ≡ picked (held text names (k - 1)) (visible-in text names (k - 1)) word t
+    unfolding found
+    last-visible t h =
+        let e : k ≡ suc (k - 1) = omega arith in
+        ap (λ (j : ℕ). found (visible-in text names j) word) e ∙ (ap (λ (l : List Declaration). found l word) (visible-suc (k - 1) (omega arith)) ∙ ap (picked (held text names (k - 1)) (visible-in text names (k - 1)) word) h)
+
+    pub found-last : same (held text names (k - 1) .letters) word ≡ true → At (held text names (k - 1) .cell) ≡ found (visible-in text names k) word
+    found-last h = sym (last-visible true h)
+
+    pub found-before : same (held text names (k - 1) .letters) word ≡ false → found (visible-in text names (k - 1)) word ≡ found (visible-in text names k) word
+    found-before h = sym (last-visible false h)

@@ -1,0 +1,20 @@
+-- `names::one_more` meets its contract. Assumes nothing.
+use native.Mathlib.Omega.{arith}
+use Rattle.names.specs.Held.{counted}
+use borrow.Author.Needs.{needs}
+use Rattle.names.proofs.one_more.Statement.{statement}
+use Rattle.names.proofs.one_more.Tie as tie
+
+add-result : tie.Need-add-result
+add-result c = search needs
+
+returns : tie.Need-returns
+unfolding counted
+returns c = omega arith
+
+returns-2 : tie.Need-returns-2
+unfolding counted
+returns-2 c = omega arith
+
+pub one-more-spec : {M : Type 1} → statement M
+one-more-spec = tie.close (tie.spec add-result returns returns-2)
