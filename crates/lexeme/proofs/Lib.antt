@@ -1,3 +1,4 @@
+pub mod Ahead
 pub mod Decoded
 pub mod Places
 pub mod Scans

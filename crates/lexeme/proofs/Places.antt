@@ -1,181 +1,281 @@
--- Laws of `here` and `next`: by what stands at a place, and that a lexeme stands within the text, at or after the place. Assumes nothing.
-use mathlib.Core.Path.{_≡_, refl, subst, ap}
+-- What begins at a place: the one case analysis of `here`, and what follows from it of `next` and of the code's lexemes. Assumes nothing.
+use mathlib.Core.Path.{_≡_, refl, sym, ap, subst, _∙_}
 use mathlib.Core.List.{List, [], _∷_}
 use mathlib.Core.Bool.{Bool, true, false, cond}
-use Prim.Native.Nat.{ℕ, _+_, _-_, _≤_, _<_}
+use Prim.Native.Nat.{ℕ, suc, _+_, _-_, _≤_, _<_, min}
+use native.Mathlib.Nat.{min-eq-left, min-le-right}
 use native.Mathlib.Numerals.{add-one}
 use native.Mathlib.Omega.{arith}
-use borrow.Author.Tests.{leb-false}
+use borrow.Author.Tests.{leb-false, ltb-true, ltb-false, eqb-false, lt-ltb, le-ltb}
 use lib.Dec.{eqb, leb, ltb}
-use lib.ListN.{length, getD, take, drop, drop-of-length-le, length-drop}
-use lib.Seq.{drop-cons}
+use lib.ListN.{length, getD, drop, drop-of-length-le, length-drop}
+use lib.Seq.{drop-cons, length-take-le}
+use Rattle.base.specs.declared.Refusal.{Refusal}
 use Rattle.base.specs.Answers.{Answer, given, refused}
-use Rattle.base.specs.Bytes.{separator, letter, digit, letter-or-digit, no-quote, run, all, same, value}
-use Rattle.lexeme.specs.Lexemes.{Lexeme, name, class, string, fixed, becomes, Placed, Next, lexeme, nothing, found, Keyword, keywords, capital-word, starts-small, Sizes, letter-word, digit-word, word, string-at, Symbol, symbols, symbol, colon, here, next}
-use Rattle.lexeme.specs.Coded.{kind-of, coded, sign-code, mul-code, rel-code, code-of}
-use Rattle.lexeme.specs.declared.Lexeme as coded-lexeme
-use Rattle.lexeme.specs.declared.Found.the-variants.{Is, End, Refused}
-use Rattle.lexeme.proofs.Decoded.{what-of, placed-of, sign-of, mul-of, rel-of, fixed-of, fixed-in, fixeds, fixed-back}
-use Rattle.base.proofs.Runs.{run-take, run-yes, run-fits}
+use Rattle.base.specs.Bytes.{separator, letter, digit, letter-or-digit, no-quote, run, all, same, part}
+use Rattle.base.proofs.Runs.{run-part, run-yes, run-fits}
+use Rattle.lexeme.specs.Lexemes.{Name, Quoted, Lexeme, lit, name, class, string, fixed, Placed, Next, lexeme, nothing, found, Keyword, keywords, capital-word, starts-small, Sizes, letter-word, word, string-at, Symbol, symbols, symbol, colon, here, next, too-large}
+use Rattle.lexeme.specs.Lexemes as lexemes
+use Rattle.lexeme.specs.Coded.{kind-of, coded, code-of, what-of, told, placed, Ends, Stands, large}
+use Rattle.lexeme.specs.declared.Kind.{Kind}
+use Rattle.lexeme.specs.declared.Kind.the-variants as kind
+use Rattle.lexeme.specs.declared.Lexeme as code
+use Rattle.lexeme.specs.declared.Found.the-variants.{Is, Refused}
+use Rattle.lexeme.proofs.Decoded.{fixed-back}
 use Rattle.lexeme.proofs.Symbols.{Each, nil, _also_}
 
-module _ (most : Sizes) (text : List ℕ) (p : ℕ) where
-  pub here-end : length text ≤ p → given nothing ≡ here most p (drop p text)
+-- ---- `here`, by what stands at the place p
+
+module _ (text : List ℕ) (p : ℕ) where
+  pub here-end : length text ≤ p → given (nothing p) ≡ here p (drop p text)
   unfolding here
   here-end h = rw (drop-of-length-le text h)
 
   -- what a byte that is no letter and no digit begins
   abbrev pub other : ℕ → Answer Next
   other b =
-      cond (eqb b 34) (string-at (most .string) p (drop (p + 1) text))
+      cond (eqb b 34) (string-at p (drop (p + 1) text))
       (cond (eqb b 58) (colon p (drop (p + 1) text))
       (symbol symbols p b))
 
   module _ (h : p < length text) where
-    pub here-word : letter-or-digit (getD text p 0) ≡ true → here most p (drop p text) ≡ word most p (run letter-or-digit (drop p text))
+    pub here-word : letter-or-digit (getD text p 0) ≡ true → here p (drop p text) ≡ word p (run letter-or-digit (drop p text))
     unfolding here
     here-word t = rw (drop-cons text p 0 h, t)
 
-    pub here-other : letter-or-digit (getD text p 0) ≡ false → here most p (drop p text) ≡ other (getD text p 0)
+    pub here-other : letter-or-digit (getD text p 0) ≡ false → here p (drop p text) ≡ other (getD text p 0)
     unfolding here
     here-other t = rw (drop-cons text p 0 h, t, add-one)
 
--- ---- where a lexeme stands
+-- ---- what it is
 
--- a lexeme that stands at the place p, where s is the text from p on
-record Fits (p : ℕ) (s : List ℕ) (l : Placed) (e : ℕ) : Type 0 where
-  there : l .place ≡ p
-  some : p < e
-  within : e ≤ p + length s
-  reads : what-of s p e (kind-of (l .what)) ≡ l .what
+-- a lexeme as it is written from the place p up to e; a literal is written in more than one way
+abbrev Written : List ℕ → ℕ → ℕ → Lexeme → Type 0
+Written text p e (lit n) = Unit {0}
+Written text p e (name x) = x ≡ record { letters = part text p e; place = p }
+Written text p e (class x) = x ≡ record { letters = part text p e; place = p }
+Written text p e (string q) = (p + 1 < e) × (q ≡ record { inside = part text (p + 1) (e - 1); place = p + 1 })
+Written text p e (fixed f) = eqb (code-of f) (code-of lexemes.end) ≡ false
 
-abbrev Good : ℕ → List ℕ → Answer Next → Type 0
-Good p s (given (lexeme l e)) = Fits p s l e
-Good p s (given nothing) = Unit {0}
-Good p s (refused n q) = Unit {0}
+-- the lexeme l stands in the text up to e
+pub record Fits (text : List ℕ) (l : Placed) (e : ℕ) : Type 0 where
+  pub some : l .place < e
+  pub within : e ≤ length text
+  pub written : Written text (l .place) e (l .what)
+
+-- what may begin at the place p
+abbrev Good : List ℕ → ℕ → Answer Next → Type 0
+Good text p (given (lexeme l e)) = (l .place ≡ p) × Fits text l e
+Good text p (given (nothing q)) = (q ≡ p) × (length text ≤ p)
+Good text p (refused why q) = Unit {0}
 
 by-test : {A : Type 0} (P : A → Type 0) (t : Bool) {x y : A} → (t ≡ true → P x) → (t ≡ false → P y) → P (cond t x y)
 by-test P true f g = f refl
 by-test P false f g = g refl
 
-module _ (p : ℕ) (s w : List ℕ) (part : take (p + length w - p) s ≡ w) where
-  capital-reads : (ks : List Keyword) → what-of s p (p + length w) (kind-of (capital-word ks p w)) ≡ capital-word ks p w
-  unfolding what-of kind-of capital-word
-  capital-reads [] = ap (λ (x : List ℕ). class (record { letters = x; place = p })) part
-  capital-reads (k ∷ ks) = by-spelling (capital-reads ks) (same w (k .spelled))
+module _ (text : List ℕ) (p : ℕ) where
+  module _ (w : List ℕ) (is : part text p (p + length w) ≡ w) where
+    capital-written : {ks : List Keyword} → Each (λ (k : Keyword). eqb (code-of (k .means)) 0 ≡ false) ks → Written text p (p + length w) (capital-word ks p w)
+    unfolding capital-word code-of
+    capital-written nil = ap (λ (x : List ℕ). record { letters = x; place = p }) (sym is)
+    capital-written (_also_ {a = k} {rest = ks} h hs) = by-spelling (capital-written hs) (same w (k .spelled))
+      where
+        by-spelling : Written text p (p + length w) (capital-word ks p w) → (t : Bool) → Written text p (p + length w) (elim t [ true ↦ fixed (k .means) | false ↦ capital-word ks p w ])
+        by-spelling later true = h
+        by-spelling later false = later
+
+    word-good : 0 < length w → p + length w ≤ length text → Good text p (word p w)
+    unfolding word letter-word found keywords code-of
+    word-good some within =
+        by-test (Good text p) (all letter w)
+        (λ _. (
+          refl,
+          record {
+            some = omega arith;
+            within = within;
+            written =
+                by-test (Written text p (p + length w)) (starts-small w)
+                (λ _. ap (λ (x : List ℕ). record { letters = x; place = p }) (sym is))
+                (λ _. capital-written (refl also refl also refl also refl also refl also refl also refl also refl also refl also refl also refl also refl also refl also refl also refl also refl also refl also refl also refl also refl also refl also nil));
+          },
+        ))
+        (λ _. by-test (Good text p) (all digit w) (λ _. (refl, record { some = omega arith; within = within; written = tt })) (λ _. tt))
+
+  symbol-good : (b : ℕ) → p < length text → {ys : List Symbol} → Each (λ (y : Symbol). eqb (code-of (y .means)) 0 ≡ false) ys → Good text p (symbol ys p b)
+  unfolding symbol found code-of
+  symbol-good b within nil = tt
+  symbol-good b within (_also_ {a = y} {rest = ys} h hs) = by-byte (symbol-good b within hs) (eqb b (y .byte))
     where
-      by-spelling : what-of s p (p + length w) (kind-of (capital-word ks p w)) ≡ capital-word ks p w
-          → (t : Bool) → what-of s p (p + length w) (kind-of (elim t [ true ↦ fixed (k .means) | false ↦ capital-word ks p w ])) ≡ elim t [ true ↦ fixed (k .means) | false ↦ capital-word ks p w ]
-      by-spelling later true = ap fixed (fixed-back (k .means))
-      by-spelling later false = later
+      by-byte : Good text p (symbol ys p b) → (t : Bool) → Good text p (elim t [ true ↦ found p (fixed (y .means)) (p + 1) | false ↦ symbol ys p b ])
+      by-byte later true = (refl, record { some = omega arith; within = omega arith; written = h })
+      by-byte later false = later
 
-  word-good : (most : Sizes) → 0 < length w → length w ≤ length s → Good p s (word most p w)
-  unfolding word letter-word digit-word found what-of kind-of
-  word-good most some within =
-      by-test (Good p s) (all letter w)
-      (λ _. by-test (Good p s) (ltb (most .word) (length w)) (λ _. tt)
-      (λ _. record {
-        there = refl;
-        some = omega arith;
-        within = omega arith;
-        reads =
-            by-test (λ (x : Lexeme). what-of s p (p + length w) (kind-of x) ≡ x) (starts-small w)
-            (λ _. ap (λ (x : List ℕ). name (record { letters = x; place = p })) part)
-            (λ _. capital-reads keywords);
-      }))
-      (λ _. by-test (Good p s) (all digit w)
-      (λ _. by-test (Good p s) (ltb (most .literal) (value 0 w)) (λ _. tt)
-      (λ _. record { there = refl; some = omega arith; within = omega arith; reads = refl }))
-      (λ _. tt))
+  colon-good : (s : List ℕ) → p + 1 + length s ≡ length text → Good text p (colon p s)
+  unfolding colon found code-of
+  colon-good [] long = tt
+  colon-good (c ∷ s) long = by-test (Good text p) (eqb c 61) (λ _. (refl, record { some = omega arith; within = omega arith; written = refl })) (λ _. tt)
 
-string-good : (most p b : ℕ) (s : List ℕ) → Good p (b ∷ s) (string-at most p s)
-unfolding string-at found what-of kind-of
-string-good most p b s =
-    let n = length (run no-quote s) in
-    by-test (Good p (b ∷ s)) (leb (length s) n) (λ _. tt)
-    (λ closed. by-test (Good p (b ∷ s)) (ltb most n) (λ _. tt)
-    (λ _. record {
-      there = refl;
-      some = omega arith;
-      within = omega (arith, leb-false (length s) n closed);
-      reads =
-          let e : p + n + 2 - p - 2 ≡ n = omega arith in
-          ap (λ (x : List ℕ). string (record { inside = x; place = p + 1 })) (rw e (run-take no-quote s));
-    }))
+  string-good : p < length text → Good text p (string-at p (drop (p + 1) text))
+  unfolding string-at found part
+  string-good h =
+      let s = drop (p + 1) text in
+      let n = length (run no-quote s) in
+      by-test (Good text p) (leb (length s) n) (λ _. tt)
+      (λ closed. (
+        refl,
+        record {
+          some = omega arith;
+          within = omega (arith, leb-false (length s) n closed, length-drop (p + 1) text);
+          written = (omega arith, ap (λ (x : List ℕ). record { inside = x; place = p + 1 }) (sym (run-part no-quote text (p + 1) (p + n + 2 - 1) (omega arith))));
+        },
+      ))
 
-colon-good : (p b : ℕ) (s : List ℕ) → Good p (b ∷ s) (colon p s)
-unfolding colon found what-of kind-of
-colon-good p b [] = tt
-colon-good p b (c ∷ s) =
-    by-test (Good p (b ∷ c ∷ s)) (eqb c 61)
-    (λ _. record { there = refl; some = omega arith; within = omega arith; reads = ap fixed (fixed-back becomes) })
-    (λ _. tt)
+  -- the case analysis of `here`
+  pub here-good : Good text p (here p (drop p text))
+  unfolding part symbols code-of
+  here-good = by-tests (ltb p (length text)) (letter-or-digit (getD text p 0)) refl refl
+    where
+      by-tests : (t u : Bool) → ltb p (length text) ≡ t → letter-or-digit (getD text p 0) ≡ u → Good text p (here p (drop p text))
+      by-tests false u out l = let h : length text ≤ p = ltb-false p (length text) out in subst (Good text p) (here-end text p h) (refl, h)
+      by-tests true true within l =
+          let h : p < length text = ltb-true p (length text) within in
+          let w = run letter-or-digit (drop p text) in
+          rw (here-word text p h l)
+          (word-good w (run-part letter-or-digit text p (p + length w) refl) (rw (drop-cons text p 0 h, run-yes letter-or-digit (getD text p 0) (drop (suc p) text) l) (omega arith)) (omega (arith, run-fits letter-or-digit (drop p text), length-drop p text)))
+      by-tests true false within l =
+          let h : p < length text = ltb-true p (length text) within in
+          let b = getD text p 0 in
+          rw (here-other text p h l)
+          (by-test (Good text p) (eqb b 34) (λ _. string-good h)
+          (λ _. by-test (Good text p) (eqb b 58) (λ _. colon-good (drop (p + 1) text) (omega (arith, length-drop (p + 1) text)))
+          (λ _. symbol-good b h
+          (refl also refl also refl also refl also refl also refl also refl also refl also refl also refl also refl also refl also refl also refl also refl also nil))))
 
-symbol-good : (p b : ℕ) (s : List ℕ) {ys : List Symbol} → Each (λ (y : Symbol). what-of (b ∷ s) p (p + 1) (kind-of (y .means)) ≡ y .means) ys → Good p (b ∷ s) (symbol ys p b)
-unfolding symbol found
-symbol-good p b s nil = tt
-symbol-good p b s (_also_ {a = y} {rest = ys} h hs) = by-byte (symbol-good p b s hs) (eqb b (y .byte))
+-- ---- a lexeme that stands in the text, and the code's
+
+-- the code's lexeme of the lexeme l that ends at e
+abbrev pub code-lexeme : Placed → ℕ → code.Lexeme
+code-lexeme l e = record { kind = kind-of (l .what); place = l .place; end = e }
+
+part-length : (text : List ℕ) (p e : ℕ) → e ≤ length text → length (part text p e) ≡ e - p
+unfolding part
+part-length text p e h = length-take-le (e - p) (drop p text) (omega (arith, length-drop p text))
+
+same-test : (a b c d : ℕ) → (a < b → c < d) → (b ≤ a → d ≤ c) → ltb a b ≡ ltb c d
+same-test a b c d f g = by-value (ltb a b) refl
   where
-    by-byte : Good p (b ∷ s) (symbol ys p b) → (t : Bool) → Good p (b ∷ s) (elim t [ true ↦ found p (y .means) (p + 1) | false ↦ symbol ys p b ])
-    by-byte later true = record { there = refl; some = omega arith; within = omega arith; reads = h }
-    by-byte later false = later
+    by-value : (t : Bool) → ltb a b ≡ t → t ≡ ltb c d
+    by-value true e = sym (lt-ltb c d (f (ltb-true a b e)))
+    by-value false e = sym (le-ltb c d (g (ltb-false a b e)))
 
-here-good : (most : Sizes) (p : ℕ) (s : List ℕ) → Good p s (here most p s)
-unfolding here symbols what-of kind-of sign-code sign-of mul-code mul-of rel-code rel-of code-of fixed-of fixed-in fixeds
-here-good most p [] = tt
-here-good most p (b ∷ s) =
-    let w = run letter-or-digit (b ∷ s) in
-    by-test (Good p (b ∷ s)) (letter-or-digit b)
-    (λ h. word-good p (b ∷ s) w (let e : p + length w - p ≡ length w = omega arith in rw e (run-take letter-or-digit (b ∷ s))) most (rw (run-yes letter-or-digit b s h) (omega arith)) (run-fits letter-or-digit (b ∷ s)))
-    (λ _. by-test (Good p (b ∷ s)) (eqb b 34) (λ _. string-good (most .string) p b s)
-    (λ _. by-test (Good p (b ∷ s)) (eqb b 58) (λ _. colon-good p b s)
-    (λ _. symbol-good p b s
-    (refl also refl also refl also refl also refl also refl also refl also refl also refl also refl also refl also refl also refl also refl also refl also nil))))
+module _ (text : List ℕ) (p e : ℕ) where
+  known : (w : Lexeme) → kind-of (what-of text p e (kind-of w)) ≡ kind-of w
+  unfolding kind-of what-of
+  known (lit n) = ap kind.Literal (min-eq-left (min-le-right n 4294967295))
+  known (name x) = refl
+  known (class x) = refl
+  known (string q) = refl
+  known (fixed f) = ap (λ (f : lexemes.Fixed). kind.Fixed (code-of f)) (fixed-back f)
 
--- a lexeme that the reader finds from the place at on, and the place after it
-pub record Stands (text : List ℕ) (at : ℕ) (l : Placed) (e : ℕ) : Type 0 where
-  pub after : at ≤ l .place
-  pub some : l .place < e
-  pub within : e ≤ length text
-  -- it is what its code says, read in the text
-  pub reads : what-of (drop (l .place) text) (l .place) e (kind-of (l .what)) ≡ l .what
+  reads : (most : Sizes) → most .literal ≤ 4294967295 → (w : Lexeme) → Written text p e w → too-large most w ≡ false → what-of text p e (kind-of w) ≡ w
+  unfolding kind-of what-of too-large
+  reads most small (lit n) h t = ap lit (min-eq-left (omega (arith, ltb-false (most .literal) n t)))
+  reads most small (name x) h t = ap name (sym h)
+  reads most small (class x) h t = ap class (sym h)
+  reads most small (string q) h t = ap string (sym (h .1))
+  reads most small (fixed f) h t = ap fixed (fixed-back f)
 
-module _ (most : Sizes) (text : List ℕ) (at : ℕ) where
-  pub next-stands : (l : Placed) (e : ℕ) → next most text at ≡ given (lexeme l e) → Stands text at l e
+  -- the sizes that the code tests are those of the definitions
+  sizes : (most : Sizes) → most .literal < 4294967295 → (w : Lexeme) → e ≤ length text → Written text p e w → large most (kind-of w) (e - p) ≡ too-large most w
+  unfolding kind-of large too-large
+  sizes most small (lit n) i h = same-test (most .literal) (min n 4294967295) (most .literal) n (λ t. omega arith) (λ t. omega arith)
+  sizes most small (name x) i h = ap (ltb (most .word)) (sym (ap (λ (y : Name). length (y .letters)) h ∙ part-length text p e i))
+  sizes most small (class x) i h = ap (ltb (most .word)) (sym (ap (λ (y : Name). length (y .letters)) h ∙ part-length text p e i))
+  sizes most small (string q) i h =
+      let n : length (q .inside) ≡ e - 1 - (p + 1) = ap (λ (y : Quoted). length (y .inside)) (h .1) ∙ part-length text (p + 1) (e - 1) (omega arith) in
+      same-test (most .string + 2) (e - p) (most .string) (length (q .inside)) (λ t. omega (arith, h .0)) (λ t. omega arith)
+  sizes most small (fixed f) i h = refl
+
+  no-end : (w : Lexeme) → Written text p e w → kind-of w ≡ kind.Fixed (code-of lexemes.end) → ⊥
+  unfolding kind-of
+  no-end (lit n) h k = let z : _≡_ {A = ℕ} 0 1 = cc in omega arith
+  no-end (name x) h k = let z : _≡_ {A = ℕ} 0 1 = cc in omega arith
+  no-end (class x) h k = let z : _≡_ {A = ℕ} 0 1 = cc in omega arith
+  no-end (string q) h k = let z : _≡_ {A = ℕ} 0 1 = cc in omega arith
+  no-end (fixed f) h k = let z : code-of f ≡ code-of lexemes.end = cc in eqb-false (code-of f) (code-of lexemes.end) h z
+
+-- ---- what stands next
+
+module _ (text : List ℕ) (at : ℕ) where
+  -- the place after the separators
+  abbrev start : ℕ
+  start = at + length (run separator (drop at text))
+
+  pub next-fits : (m : Placed) (e : ℕ) → next text at ≡ given (lexeme m e) → (at ≤ m .place) × Fits text m e
   unfolding next
-  next-stands l e h =
-      let p = at + length (run separator (drop at text)) in
-      let f : Fits p (drop p text) l e = subst (Good p (drop p text)) h (here-good most p (drop p text)) in
-      record {
-        after = omega (arith, f .there);
-        some = omega (arith, f .there, f .some);
-        within = omega (arith, f .some, f .within, length-drop p text);
-        reads = rw (f .there) (f .reads);
-      }
+  next-fits m e n =
+      let g : (m .place ≡ start) × Fits text m e = subst (Good text start) n (here-good text start) in
+      (omega (arith, g .0), g .1)
 
-  -- the code's lexeme says which one stands in the text
-  pub next-is : (x : coded-lexeme.Lexeme) → Is x ≡ coded (next most text at) → next most text at ≡ given (lexeme (placed-of text x) (x .end))
-  unfolding coded
-  next-is x h = by-answer (next most text at) refl h
+  next-nothing : (q : ℕ) → at ≤ length text → next text at ≡ given (nothing q) → q ≡ length text
+  unfolding next
+  next-nothing q h n =
+      let g : (q ≡ start) × (length text ≤ start) = subst (Good text start) n (here-good text start) in
+      omega (arith, g .0, g .1, run-fits separator (drop at text), length-drop at text)
+
+  -- what holds of a lexeme that stands next, and of the code's
+  module _ (m : Placed) (e : ℕ) (n : next text at ≡ given (lexeme m e)) where
+    pub next-no-end : Ends (code-lexeme m e) → ⊥
+    next-no-end = no-end text (m .place) e (m .what) (next-fits m e n .1 .written)
+
+    pub next-placed : (most : Sizes) → most .literal ≤ 4294967295 → too-large most (m .what) ≡ false → placed text (code-lexeme m e) ≡ m
+    unfolding told
+    next-placed most small t = ap (λ (w : Lexeme). record { place = m .place; what = w }) (reads text (m .place) e most small (m .what) (next-fits m e n .1 .written) t)
+
+    pub next-large : (most : Sizes) → most .literal < 4294967295 → large most (kind-of (m .what)) (e - m .place) ≡ too-large most (m .what)
+    next-large most small = let f = next-fits m e n .1 in sizes text (m .place) e most small (m .what) (f .within) (f .written)
+
+  -- how a lexeme of the code is that of the definitions
+  pub data Reading : code.Lexeme → Type 0 where
+    one : (m : Placed) (e : ℕ) → next text at ≡ given (lexeme m e) → Reading (code-lexeme m e)
+    none : next text at ≡ given (nothing (length text)) → Reading (code-lexeme (record { place = length text; what = fixed lexemes.end }) (length text))
+
+  pub reading : (l : code.Lexeme) → at ≤ length text → Is l ≡ coded (next text at) → Reading l
+  unfolding coded kind-of
+  reading l h is = by-answer (next text at) refl is
     where
-      by-answer : (a : Answer Next) → next most text at ≡ a → Is x ≡ coded a → a ≡ given (lexeme (placed-of text x) (x .end))
-      by-answer (given (lexeme l e)) n i =
-          let m : x ≡ record { kind = kind-of (l .what); place = l .place; end = e } = cc in
-          rw (m, next-stands l e n .reads)
-      by-answer (given nothing) n i = cc
-      by-answer (refused k q) n i = cc
+      by-answer : (a : Answer Next) → next text at ≡ a → Is l ≡ coded a → Reading l
+      by-answer (given (lexeme m e)) n i = let k : l ≡ code-lexeme m e = cc in rw k (one m e n)
+      by-answer (given (nothing q)) n i =
+          let k : l ≡ code-lexeme (record { place = q; what = fixed lexemes.end }) q = cc in
+          let w = next-nothing q h n in
+          rw (k, w) (none (rw w at n))
+      by-answer (refused why q) n i = absurd (let z : _≡_ {A = ℕ} 0 1 = cc in omega arith)
 
-  pub found-stands : (x : coded-lexeme.Lexeme) → Is x ≡ coded (next most text at) → Stands text at (placed-of text x) (x .end)
-  found-stands x h = next-stands (placed-of text x) (x .end) (next-is x h)
+  pub next-stands : (l : code.Lexeme) → at ≤ length text → Is l ≡ coded (next text at) → (at ≤ l .place) × Stands text l
+  unfolding told kind-of
+  next-stands l h is = by-reading (reading l h is)
+    where
+      by-reading : {l : code.Lexeme} → Reading l → (at ≤ l .place) × Stands text l
+      by-reading (one m e n) =
+          let f = next-fits m e n in
+          (f .0, record { order = omega arith; within = f .1 .within; some = λ _. f .1 .some; known = known text (m .place) e (m .what) })
+      by-reading (none n) = (h, record { order = omega arith; within = omega arith; some = λ k. absurd (k refl); known = known text (length text) (length text) (fixed lexemes.end) })
 
-pub coded-end : (a : Answer Next) → End ≡ coded a → a ≡ given nothing
+  -- the end is found only where the text ends
+  pub next-ends : (l : code.Lexeme) → at ≤ length text → Is l ≡ coded (next text at) → Ends l → (l .place ≡ length text) × (l .end ≡ length text)
+  next-ends l h is ends = by-reading (reading l h is) ends
+    where
+      by-reading : {l : code.Lexeme} → Reading l → Ends l → (l .place ≡ length text) × (l .end ≡ length text)
+      by-reading (one m e n) ends = absurd (next-no-end m e n ends)
+      by-reading (none n) ends = (refl, refl)
+
+pub end-small : (most : Sizes) (l : code.Lexeme) (n : ℕ) → Ends l → large most (l .kind) n ≡ false
+unfolding large
+end-small most l n ends = ap (λ (k : Kind). large most k n) ends
+
+pub coded-refused : (a : Answer Next) (why : Refusal) (p : ℕ) → Refused why p ≡ coded a → a ≡ refused why p
 unfolding coded
-coded-end (given (lexeme l e)) h = cc
-coded-end (given nothing) h = refl
-coded-end (refused n p) h = cc
-
-pub coded-refused : (a : Answer Next) (n p : ℕ) → Refused n p ≡ coded a → a ≡ refused n p
-unfolding coded
-coded-refused (given (lexeme l e)) n p h = cc
-coded-refused (given nothing) n p h = cc
-coded-refused (refused m q) n p h = cc
+coded-refused (given (lexeme m e)) why p h = cc
+coded-refused (given (nothing q)) why p h = cc
+coded-refused (refused w q) why p h = cc

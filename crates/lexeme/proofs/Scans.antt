@@ -1,71 +1,95 @@
--- The lexemes from a place on: that the fuel does not matter, and how they go on by what stands next. Assumes nothing.
-use mathlib.Core.Path.{_≡_, refl, ap}
+-- The lexemes from a place on, by what stands next there, and what a scan that stands there knows. Assumes nothing.
+use mathlib.Core.Path.{_≡_, refl, sym, ap, _∙_}
 use mathlib.Core.List.{List, [], _∷_}
+use mathlib.Core.Bool.{true, false}
 use Prim.Native.Nat.{ℕ, zero, suc, _-_, _≤_, _<_}
 use native.Mathlib.Omega.{arith}
 use lib.ListN.{length}
 use types.Run.{OneOf, miss}
 use denote.Enum.Declared.{tagOf}
+use Rattle.base.specs.declared.Refusal.{Refusal}
+use Rattle.base.specs.declared.Refusal.the-variants.{TooLarge}
 use Rattle.base.specs.Answers.{Answer, given, refused, pass}
-use Rattle.lexeme.specs.Lexemes.{fixed, end, Placed, Next, lexeme, nothing, Sizes, next, lexemes-from, lexemes}
-use Rattle.lexeme.specs.Coded.{coded, scanned}
+use Rattle.lexeme.specs.Lexemes.{fixed, end, Placed, lexeme, nothing, Sizes, next, too-large, sized, lexemes-from, lexemes}
+use Rattle.lexeme.specs.Coded.{kind-of, coded, scanned, large, Ends}
 use Rattle.lexeme.specs.declared.Lexeme.{Lexeme}
 use Rattle.lexeme.specs.declared.Found.{Found}
-use Rattle.lexeme.specs.declared.Found.the-variants.{Is, End, Refused}
+use Rattle.lexeme.specs.declared.Found.the-variants.{Is, Refused}
 use Rattle.lexeme.proofs.Found.{the-type}
-use Rattle.lexeme.proofs.Places.{next-stands, next-is, coded-end, coded-refused}
+use Rattle.lexeme.proofs.Places.{Reading, one, none, reading, next-fits, next-no-end, next-large, coded-refused}
 
 module _ (most : Sizes) (text : List ℕ) where
-  -- what follows a reading, where f gives the lexemes from a place on
-  abbrev pub onwards : (ℕ → Answer (List Placed)) → Next → Answer (List Placed)
-  onwards f n = elim n [
-    | lexeme l e ↦ pass (f e) (λ ls. given (l ∷ ls))
-    | nothing ↦ given (record { place = length text; what = fixed end } ∷ [])
-  ]
+  module _ (fuel at : ℕ) where
+    pub from-one : (m : Placed) (e : ℕ) → next text at ≡ given (lexeme m e) → too-large most (m .what) ≡ false → lexemes-from most text (suc fuel) at ≡ pass (lexemes-from most text fuel e) (λ ls. given (m ∷ ls))
+    unfolding lexemes-from pass sized
+    from-one m e n t = rw (n, t)
 
-  -- it matters only what f gives further on
-  further : (f g : ℕ → Answer (List Placed)) (at : ℕ) → ((e : ℕ) → at < e → e ≤ length text → f e ≡ g e) → pass (next most text at) (onwards f) ≡ pass (next most text at) (onwards g)
-  unfolding pass
-  further f g at same = by-answer (next most text at) refl
-    where
-      by-answer : (a : Answer Next) → next most text at ≡ a → pass a (onwards f) ≡ pass a (onwards g)
-      by-answer (given (lexeme l e)) n =
-          let s = next-stands most text at l e n in
-          ap (λ (r : Answer (List Placed)). pass r (λ ls. given (l ∷ ls))) (same e (omega arith) (omega arith))
-      by-answer (given nothing) n = refl
-      by-answer (refused k q) n = refl
+    pub from-large : (m : Placed) (e : ℕ) → next text at ≡ given (lexeme m e) → too-large most (m .what) ≡ true → lexemes-from most text (suc fuel) at ≡ refused TooLarge (m .place)
+    unfolding lexemes-from pass sized
+    from-large m e n t = rw (n, t)
 
-  pub fuel-free : (f g at : ℕ) → length text - at < f → length text - at < g → lexemes-from most text f at ≡ lexemes-from most text g at
-  unfolding lexemes-from
-  fuel-free zero g at p q = absurd (omega arith)
-  fuel-free (suc f) zero at p q = absurd (omega arith)
-  fuel-free (suc f) (suc g) at p q = further (lexemes-from most text f) (lexemes-from most text g) at (λ e h k. fuel-free f g e (omega arith) (omega arith))
+    pub from-none : (p : ℕ) → next text at ≡ given (nothing p) → lexemes-from most text (suc fuel) at ≡ given (record { place = p; what = fixed end } ∷ [])
+    unfolding lexemes-from pass
+    from-none p n = rw n
 
-  -- the lexemes from a place on, with just the fuel that they need
-  abbrev pub rest : ℕ → Answer (List Placed)
-  rest at = lexemes-from most text (suc (length text - at)) at
+    pub from-refused : (why : Refusal) (p : ℕ) → next text at ≡ refused why p → lexemes-from most text (suc fuel) at ≡ refused why p
+    unfolding lexemes-from pass
+    from-refused why p n = rw n
 
-  pub rest-whole : lexemes most text ≡ rest 0
+  -- ---- the scan
+
+  -- the lexemes from a place on decide how the scan of the whole text ends
+  pub record Scan (at : ℕ) : Type 0 where
+    pub within : at ≤ length text
+    fuel : ℕ
+    enough : length text - at ≤ fuel
+    same : scanned text (lexemes-from most text (suc fuel) at) ≡ scanned text (lexemes most text)
+
+  pub scan-starts : Scan 0
   unfolding lexemes
-  rest-whole = fuel-free (suc (length text)) (suc (length text - 0)) 0 (omega arith) (omega arith)
+  scan-starts = record { within = omega arith; fuel = length text; enough = omega arith; same = refl }
 
-  pub rest-next : (at : ℕ) → rest at ≡ pass (next most text at) (onwards rest)
-  unfolding lexemes-from
-  rest-next at = further (lexemes-from most text (length text - at)) rest at (λ e h k. fuel-free (length text - at) (suc (length text - e)) e (omega arith) (omega arith))
-
-  -- ---- the scan, by what the reader finds
-
-  scanned-more : (l : Placed) (a : Answer (List Placed)) → scanned a ≡ scanned (pass a (λ ls. given (l ∷ ls)))
+  scanned-more : (m : Placed) (a : Answer (List Placed)) → scanned text a ≡ scanned text (pass a (λ ls. given (m ∷ ls)))
   unfolding scanned pass
-  scanned-more l (given ls) = refl
-  scanned-more l (refused n p) = refl
+  scanned-more m (given ls) = refl
+  scanned-more m (refused why p) = refl
 
-  pub scan-on : (at : ℕ) (x : Lexeme) → Is x ≡ coded (next most text at) → scanned (rest (x .end)) ≡ scanned (rest at)
-  unfolding pass
-  scan-on at x h = rw (rest-next at, next-is most text at x h) (scanned-more _ (rest (x .end)))
+  module _ (at : ℕ) (s : Scan at) where
+    pub scan-refused : (r : Found) → r ≡ coded (next text at) → OneOf (1 ∷ []) (tagOf the-type r) → r ≡ scanned text (lexemes most text)
+    unfolding scanned
+    scan-refused (Is l) h t = absurd (miss (1 ∷ []) 0 tt t)
+    scan-refused (Refused why p) h t = ap (scanned text) (sym (from-refused (s .fuel) at why p (coded-refused (next text at) why p h))) ∙ s .same
 
-  pub scan-stop : (at : ℕ) (r : Found) → r ≡ coded (next most text at) → OneOf (1 ∷ 2 ∷ []) (tagOf the-type r) → r ≡ scanned (rest at)
-  unfolding scanned pass
-  scan-stop at (Is x) h t = absurd (miss (1 ∷ 2 ∷ []) 0 tt t)
-  scan-stop at End h t = rw (rest-next at, coded-end _ h)
-  scan-stop at (Refused n p) h t = rw (rest-next at, coded-refused _ n p h)
+    module _ (small : most .literal < 4294967295) (l : Lexeme) (is : Is l ≡ coded (next text at)) where
+      pub scan-large : large most (l .kind) (l .end - l .place) ≡ true → Refused TooLarge (l .place) ≡ scanned text (lexemes most text)
+      unfolding scanned large kind-of
+      scan-large t = by-reading (reading text at l (s .within) is) t
+        where
+          by-reading : {l : Lexeme} → Reading text at l → large most (l .kind) (l .end - l .place) ≡ true → Refused TooLarge (l .place) ≡ scanned text (lexemes most text)
+          by-reading (one m e n) t = ap (scanned text) (sym (from-large (s .fuel) at m e n (sym (next-large text at m e n most small) ∙ t))) ∙ s .same
+          by-reading (none n) t = absurd (let z : _≡_ {A = ℕ} 0 1 = cc in omega arith)
+
+      pub scan-ends : Ends l → Is l ≡ scanned text (lexemes most text)
+      unfolding scanned kind-of
+      scan-ends ends = by-reading (reading text at l (s .within) is) ends
+        where
+          by-reading : {l : Lexeme} → Reading text at l → Ends l → Is l ≡ scanned text (lexemes most text)
+          by-reading (one m e n) ends = absurd (next-no-end text at m e n ends)
+          by-reading (none n) ends = ap (scanned text) (sym (from-none (s .fuel) at (length text) n)) ∙ s .same
+
+      pub scan-on : large most (l .kind) (l .end - l .place) ≡ false → (Ends l → ⊥) → Scan (l .end)
+      unfolding kind-of
+      scan-on t n = by-reading (reading text at l (s .within) is) (s .fuel) (s .enough) (s .same) t n
+        where
+          by-reading : {l : Lexeme} → Reading text at l → (fuel : ℕ) → length text - at ≤ fuel → scanned text (lexemes-from most text (suc fuel) at) ≡ scanned text (lexemes most text)
+              → large most (l .kind) (l .end - l .place) ≡ false → (Ends l → ⊥) → Scan (l .end)
+          by-reading (one m e n) zero enough same t k = let f = next-fits text at m e n in absurd (omega arith)
+          by-reading (one m e n) (suc fuel) enough same t k =
+              let f = next-fits text at m e n in
+              record {
+                within = f .1 .within;
+                fuel = fuel;
+                enough = omega arith;
+                same = scanned-more m (lexemes-from most text (suc fuel) e) ∙ ap (scanned text) (sym (from-one (suc fuel) at m e n (sym (next-large text at m e n most small) ∙ t))) ∙ same;
+              }
+          by-reading (none n) fuel enough same t k = absurd (k refl)

@@ -8,8 +8,9 @@ use native.Mathlib.Nat.{eq-or-lt-of-le}
 use native.Mathlib.Omega.{arith}
 use borrow.Author.Tests.{ne-eqb}
 use types.Run.{OneOf}
+use Rattle.base.specs.declared.Refusal.the-variants.{NoLexeme}
 use Rattle.base.specs.Answers.{refused}
-use Rattle.lexeme.specs.Lexemes.{Symbol, symbol, found}
+use Rattle.lexeme.specs.Lexemes.{fixed, Symbol, symbol, found}
 
 -- what holds of each element of a list
 infixr 5 _also_
@@ -37,7 +38,7 @@ in-range (suc n) low x p q =
     (eq-or-lt-of-le p)
 
 -- a byte that is no symbol
-pub symbol-none : {ys : List Symbol} (p b : ℕ) → Each (λ (y : Symbol). b ≡ y .byte → ⊥) ys → refused 2 p ≡ symbol ys p b
+pub symbol-none : {ys : List Symbol} (p b : ℕ) → Each (λ (y : Symbol). b ≡ y .byte → ⊥) ys → refused NoLexeme p ≡ symbol ys p b
 unfolding symbol
 symbol-none p b nil = refl
-symbol-none p b (_also_ {a = y} {rest = ys} h hs) = symbol-none p b hs ∙ ap (λ (t : Bool). elim t [ true ↦ found p (y .means) (p + 1) | false ↦ symbol ys p b ]) (sym (ne-eqb b (y .byte) h))
+symbol-none p b (_also_ {a = y} {rest = ys} h hs) = symbol-none p b hs ∙ ap (λ (t : Bool). elim t [ true ↦ found p (fixed (y .means)) (p + 1) | false ↦ symbol ys p b ]) (sym (ne-eqb b (y .byte) h))

@@ -2,10 +2,11 @@
 use mathlib.Core.Path.{_≡_, refl, sym, ap, _∙_}
 use mathlib.Core.List.{List, [], _∷_}
 use mathlib.Core.Bool.{Bool, true, false}
-use Prim.Native.Nat.{ℕ, _+_, _-_, _≤_, _<_}
+use Prim.Native.Nat.{ℕ, _+_, _≤_, _<_}
 use native.Mathlib.Omega.{arith}
 use lib.ListN.{length, getD, drop, length-drop}
-use borrow.Author.Tests.{le-leb, lt-leb, lt-ltb, le-ltb}
+use borrow.Author.Tests.{le-leb, lt-leb}
+use Rattle.base.specs.declared.Refusal.the-variants.{NoLexeme}
 use Rattle.base.specs.Answers.{refused}
 use Rattle.base.specs.Bytes.{small, no-quote, run, same}
 use Rattle.lexeme.specs.Lexemes.{Keyword, fixed, capital-word, starts-small, string, string-at, found}
@@ -45,21 +46,16 @@ starts-first [] n = absurd (n refl)
 starts-first (b ∷ w) n = refl
 
 -- a string whose opening quote is at p, where e is the place of the next quote, or the text's length
-module _ (most : ℕ) (text : List ℕ) (p e : ℕ) (run-ends : e ≡ p + 1 + length (run no-quote (drop (p + 1) text))) where
+module _ (text : List ℕ) (p e : ℕ) (run-ends : e ≡ p + 1 + length (run no-quote (drop (p + 1) text))) where
   abbrev inside : List ℕ
   inside = run no-quote (drop (p + 1) text)
 
-  pub string-open : length text ≤ e → refused 2 p ≡ string-at most p (drop (p + 1) text)
+  pub string-open : length text ≤ e → refused NoLexeme p ≡ string-at p (drop (p + 1) text)
   unfolding string-at
   string-open h = rw (le-leb (length (drop (p + 1) text)) (length inside) (omega (arith, length-drop (p + 1) text)))
 
-  module _ (closed : e < length text) where
-    pub string-long : most < e - (p + 1) → refused 3 p ≡ string-at most p (drop (p + 1) text)
-    unfolding string-at
-    string-long h = rw (lt-leb (length (drop (p + 1) text)) (length inside) (omega (arith, length-drop (p + 1) text)), lt-ltb most (length inside) (omega arith))
-
-    pub string-fits : e - (p + 1) ≤ most → found p (string (record { inside = inside; place = p + 1 })) (e + 1) ≡ string-at most p (drop (p + 1) text)
-    unfolding string-at
-    string-fits h =
-        let ends : e + 1 ≡ p + length inside + 2 = omega arith in
-        rw (lt-leb (length (drop (p + 1) text)) (length inside) (omega (arith, length-drop (p + 1) text)), le-ltb most (length inside) (omega arith), ends)
+  pub string-closed : e < length text → found p (string (record { inside = inside; place = p + 1 })) (e + 1) ≡ string-at p (drop (p + 1) text)
+  unfolding string-at
+  string-closed h =
+      let ends : e + 1 ≡ p + length inside + 2 = omega arith in
+      rw (lt-leb (length (drop (p + 1) text)) (length inside) (omega (arith, length-drop (p + 1) text)), ends)
