@@ -36,7 +36,7 @@ use Rattle.compiler.specs.Tables.{put}
 -- ---- the walk
 
 abbrev pub start-at : ℕ → Walk
-start-at place = record { next = record { kind = kind.Fixed (code-of end); place = 0; end = 0 }; code = place; scope = record { visible = 0; declared = 0; next-cell = 0; cells = 0; blocks = 0 }; fault = Nothing }
+start-at place = record { next = record { kind = kind.Fixed (code-of end); place = 0; end = 0 }; code = place; scope = record { visible = 0; declared = 0; «next_cell» = 0; cells = 0; blocks = 0 }; fault = Nothing }
 
 unfoldable pub moved-to : Walk → Lexeme → Walk
 moved-to w l = record { next = l; code = w .code; scope = w .scope; fault = w .fault }

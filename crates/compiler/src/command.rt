@@ -89,18 +89,15 @@ fn read(text: &[u8], names: &[usize], table: &mut [i32], w: Walk, allow: usize) 
         return Read::Refused(Refusal::NoProgram, l.place);
     };
     let x = walk::emitted(table, w, operations::READ, 0);
-    walk::advance(text, naming::used(text, names, table, x, operations::STORE_STACK), 1)
+    walk::advance(
+        text,
+        naming::used(text, names, table, x, operations::STORE_STACK),
+        1,
+    )
 }
 
 // After the name l. It is looked up first, since it stands left of the Expression's names.
-fn assign(
-    text: &[u8],
-    names: &[usize],
-    table: &mut [i32],
-    w: Walk,
-    l: Lexeme,
-    allow: usize,
-) -> Read
+fn assign(text: &[u8], names: &[usize], table: &mut [i32], w: Walk, l: Lexeme, allow: usize) -> Read
     requires { ⌜ Ready (now text) (now names) w allow ⌝ }
     ensures { λ r. ⌜ Reads-assign l (now (text .entry)) (now (names .entry)) (now (table .entry)) w allow r (now (names .entry)) (now (table .exit)) ⌝ }
 {
@@ -113,7 +110,10 @@ fn assign(
     let Read::Done(y, g) = r else {
         return r;
     };
-    Read::Done(walk::emitted(table, y, operations::STORE_STACK, naming::operand(c)), g)
+    Read::Done(
+        walk::emitted(table, y, operations::STORE_STACK, naming::operand(c)),
+        g,
+    )
 }
 
 // ---- around the body of an IF or a WHILE
@@ -153,7 +153,10 @@ pub fn command(text: &[u8], names: &mut [usize], table: &mut [i32], w: Walk, all
     }
     let f = lexeme::fixed_of(kind);
     match f {
-        fixed::ERROR => Read::Done(walk::emitted(table, x, operations::HALT, 1), Gives { need: 0 }),
+        fixed::ERROR => Read::Done(
+            walk::emitted(table, x, operations::HALT, 1),
+            Gives { need: 0 },
+        ),
         fixed::INT => declare(text, names, table, x, allow),
         fixed::PRINTI => print_int(text, names, table, x, allow),
         fixed::PRINTLNS => print_string(text, names, table, x, true, allow),
@@ -206,7 +209,12 @@ fn guarded(
     };
     let end = ended(table, y, again, w.code);
     walk::put(table, c.code, operations::JUMP_IF_FALSE, end.code as i32);
-    Read::Done(end, Gives { need: walk::larger(g.need, h.need) })
+    Read::Done(
+        end,
+        Gives {
+            need: walk::larger(g.need, h.need),
+        },
+    )
 }
 
 // After `{`, with so many nestings allowed inside.

@@ -184,5 +184,8 @@ fn comparison(text: &[u8], names: &[usize], table: &mut [i32], w: Walk, allow: u
         return right;
     };
     let need = walk::larger(g.need, 1 + h.need);
-    Read::Done(walk::emitted(table, z, operator::operation(f), 0), Gives { need: need })
+    Read::Done(
+        walk::emitted(table, z, operator::operation(f), 0),
+        Gives { need: need },
+    )
 }

@@ -2,13 +2,16 @@
 use mathlib.Core.Path.{_≡_, refl, sym, ap, subst, _∙_}
 use mathlib.Core.List.{List, [], _∷_}
 use mathlib.Core.Bool.{Bool, true, false}
-use Prim.Native.Nat.{ℕ, zero, suc, _-_, _≤_, _<_}
+use Prim.Native.Nat.{ℕ, zero, suc, _-_, _≤_, _<_, min}
 use native.Mathlib.Omega.{arith}
 use lib.ListN.{length}
 use Rattle.base.specs.declared.Refusal.{Refusal}
 use Rattle.base.specs.Answers.{Answer, given, refused, pass}
-use Rattle.lexeme.specs.Lexemes.{fixed, end, Placed, Next, lexeme, nothing, Sizes, next, too-large, lexemes-from, lexemes}
-use Rattle.lexeme.specs.Coded.{kind-of, coded, what-of, told, placed, Ends, Ahead, last, more}
+use Rattle.lexeme.specs.Lexemes as lexemes
+use Rattle.lexeme.specs.Lexemes.{lit, name, class, string, fixed, end, Placed, Next, lexeme, nothing, Sizes, next, too-large, lexemes-from, lexemes}
+use Rattle.lexeme.specs.Coded.{kind-of, coded, what-of, told, placed, Ends, Number, Ahead, last, more}
+use Rattle.lexeme.specs.declared.Kind.the-variants as kind
+use borrow.Author.Tests.{ltb-false}
 use Rattle.lexeme.specs.declared.Lexeme.{Lexeme}
 use Rattle.lexeme.specs.declared.Found.the-variants.{Is, Refused}
 use Rattle.lexeme.proofs.Decoded.{fixed-back}
@@ -22,7 +25,16 @@ From text at ls = (l : Lexeme) × (Is l ≡ coded (next text at)) × Ahead text 
 no-refusal : {A : Type 0} {a : A} {why : Refusal} {p : ℕ} → refused why p ≡ given a → ⊥
 no-refusal h = let z : _≡_ {A = ℕ} 0 1 = cc in omega arith
 
-module _ (most : Sizes) (text : List ℕ) (small : most .literal ≤ 4294967295) where
+-- a literal that is not too large is a number
+is-number : (most : Sizes) → most .literal ≤ 2147483647 → (w : lexemes.Lexeme) → too-large most w ≡ false → (v : ℕ) → kind-of w ≡ kind.Literal v → v ≤ 2147483647
+unfolding kind-of too-large
+is-number most small (lit n) t v h = let e : min n 4294967295 ≡ v = cc in omega (arith, ltb-false (most .literal) n t)
+is-number most small (name x) t v h = let z : _≡_ {A = ℕ} 0 1 = cc in absurd (omega arith)
+is-number most small (class x) t v h = let z : _≡_ {A = ℕ} 0 1 = cc in absurd (omega arith)
+is-number most small (string q) t v h = let z : _≡_ {A = ℕ} 0 1 = cc in absurd (omega arith)
+is-number most small (fixed f) t v h = let z : _≡_ {A = ℕ} 0 1 = cc in absurd (omega arith)
+
+module _ (most : Sizes) (text : List ℕ) (small : most .literal ≤ 2147483647) where
   -- by what stands next, where the lexemes further on are known
   by-next : (fuel at : ℕ) (ls : List Placed) → ((e : ℕ) (rest : List Placed) → at < e → e ≤ length text → lexemes-from most text fuel e ≡ given rest → From text e rest)
       → lexemes-from most text (suc fuel) at ≡ given ls → From text at ls
@@ -33,8 +45,8 @@ module _ (most : Sizes) (text : List ℕ) (small : most .literal ≤ 4294967295)
       one-more m e n t (given rest) r k =
           let f = next-fits text at m e n in
           let later = further e rest (omega arith) (f .1 .within) r in
-          let split : placed text (code-lexeme m e) ∷ rest ≡ ls = cc (next-placed text at m e n most small t) in
-          (code-lexeme m e, rw n, subst (Ahead text (code-lexeme m e)) split (more (code-lexeme m e) (later .0) rest (next-no-end text at m e n) (later .1) (later .2)))
+          let split : placed text (code-lexeme m e) ∷ rest ≡ ls = cc (next-placed text at m e n most (omega arith) t) in
+          (code-lexeme m e, rw n, subst (Ahead text (code-lexeme m e)) split (more (code-lexeme m e) (later .0) rest (next-no-end text at m e n) (is-number most small (m .what) t) (later .1) (later .2)))
       one-more m e n t (refused why p) r k = absurd (no-refusal k)
 
       by-size : (m : Placed) (e : ℕ) → next text at ≡ given (lexeme m e) → (t : Bool) → too-large most (m .what) ≡ t → From text at ls
@@ -53,7 +65,7 @@ module _ (most : Sizes) (text : List ℕ) (small : most .literal ≤ 4294967295)
   ahead-from zero at ls enough is = absurd (omega arith)
   ahead-from (suc fuel) at ls enough is = by-next fuel at ls (λ e rest after within r. ahead-from fuel e rest (omega arith) r) is
 
-pub lexemes-ahead : (most : Sizes) (text : List ℕ) (ls : List Placed) → most .literal ≤ 4294967295 → lexemes most text ≡ given ls → From text 0 ls
+pub lexemes-ahead : (most : Sizes) (text : List ℕ) (ls : List Placed) → most .literal ≤ 2147483647 → lexemes most text ≡ given ls → From text 0 ls
 unfolding lexemes
 lexemes-ahead most text ls small is = ahead-from most text small (suc (length text)) 0 ls (omega arith) is
 
@@ -64,12 +76,13 @@ pub record Begins (text : List ℕ) (l : Lexeme) (ls : List Placed) : Type 0 whe
   pub split : ls ≡ placed text l ∷ rest
   pub more : (Ends l → ⊥) → (m : Lexeme) → Is m ≡ coded (next text (l .end)) → Ahead text m rest
   pub alone : Ends l → rest ≡ []
+  pub number : Number l
 
 module _ {text : List ℕ} where
   pub begins : {l : Lexeme} {ls : List Placed} → Ahead text l ls → Begins text l ls
-  begins (last l ends) = record { rest = []; split = refl; more = λ n m is. absurd (n ends); alone = λ _. refl }
-  begins (more l k ls n is a) = record { rest = ls; split = refl; more = λ _ m h. let e : k ≡ m = cc in subst (λ (x : Lexeme). Ahead text x ls) e a; alone = λ ends. absurd (n ends) }
+  begins (last l ends) = record { rest = []; split = refl; more = λ n m is. absurd (n ends); alone = λ _. refl; number = λ v h. let z : _≡_ {A = ℕ} 0 1 = cc in absurd (omega arith) }
+  begins (more l k ls n number is a) = record { rest = ls; split = refl; more = λ _ m h. let e : k ≡ m = cc in subst (λ (x : Lexeme). Ahead text x ls) e a; alone = λ ends. absurd (n ends); number = number }
 
   pub not-ahead : {l : Lexeme} {ls : List Placed} → (Ends l → ⊥) → (why : Refusal) (p : ℕ) → Refused why p ≡ coded (next text (l .end)) → Ahead text l ls → ⊥
   not-ahead n why p h (last l ends) = n ends
-  not-ahead n why p h (more l k ls _ is a) = let z : _≡_ {A = ℕ} 0 1 = cc in omega arith
+  not-ahead n why p h (more l k ls _ _ is a) = let z : _≡_ {A = ℕ} 0 1 = cc in omega arith

@@ -259,8 +259,8 @@ module _ (text : List ℕ) (at : ℕ) where
       by-reading : {l : code.Lexeme} → Reading l → (at ≤ l .place) × Stands text l
       by-reading (one m e n) =
           let f = next-fits m e n in
-          (f .0, record { order = omega arith; within = f .1 .within; some = λ _. f .1 .some; known = known text (m .place) e (m .what) })
-      by-reading (none n) = (h, record { order = omega arith; within = omega arith; some = λ k. absurd (k refl); known = known text (length text) (length text) (fixed lexemes.end) })
+          (f .0, record { order = omega arith; within = f .1 .within; some = λ _. f .1 .some; last = λ ends. absurd (next-no-end m e n ends); known = known text (m .place) e (m .what) })
+      by-reading (none n) = (h, record { order = omega arith; within = omega arith; some = λ k. absurd (k refl); last = λ _. refl; known = known text (length text) (length text) (fixed lexemes.end) })
 
   -- the end is found only where the text ends
   pub next-ends : (l : code.Lexeme) → at ≤ length text → Is l ≡ coded (next text at) → Ends l → (l .place ≡ length text) × (l .end ≡ length text)

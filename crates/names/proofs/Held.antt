@@ -3,7 +3,8 @@ use mathlib.Core.Path.{_≡_, refl, sym, ap, _∙_}
 use mathlib.Core.List.{List, [], _∷_}
 use mathlib.Core.Bool.{Bool, true, false, cond}
 use Prim.Native.Nat.{ℕ, zero, suc, _+_, _*_, _/_, _≤_, _<_}
-use native.Mathlib.Nat.{add-zero}
+use native.Mathlib.Nat.{add-zero, eq-or-lt-of-le}
+use mathlib.Core.Logic.{⊎-elim}
 use native.Mathlib.Omega.{arith}
 use lib.Dec.{ltb}
 use lib.ListN.{length, getD, set, length-set}
@@ -15,7 +16,7 @@ use Rattle.base.specs.Bytes.{part, same}
 use Rattle.lexeme.specs.Lexemes.{Name}
 use Rattle.names.specs.Names as N
 use Rattle.names.specs.Names.{Declaration, Known, look-up, used, one-more, declared-here, opened, closed}
-use Rattle.names.specs.Held.{held, visible-in, scope-in, found, counted, declared-scope, entered, Declares, opened-scope, closed-scope, Sound, Kept}
+use Rattle.names.specs.Held.{held, visible-in, scope-in, found, counted, declared-scope, entered, Declares, opened-scope, closed-scope, Sound, Low, Kept}
 use Rattle.names.specs.declared.Scope.{Scope}
 use Rattle.names.specs.declared.Cell.{Cell}
 use Rattle.names.specs.declared.Cell.the-variants.{At, Nowhere}
@@ -135,6 +136,16 @@ module _ (names : List ℕ) (s : Scope) (p e : ℕ) (sound : Sound names s) wher
         rw (is .1, counts-on (s .visible) (omega arith), counts-on (s .declared) (omega arith), counts-on (s .«next_cell») (omega arith), counts-on (s .cells) (omega arith))
         (record { visible = omega arith; next-cell = omega arith; cells = omega arith; declared = omega arith; blocks = sound .blocks; room = omega arith })
 
+    pub declared-low : Low names s → Low names′ t
+    unfolding Declares
+    declared-low low = record { cells = λ k h. by k (omega (arith, declared-visible)) }
+      where
+        at-last : getD names′ (s .visible * 4 + 2) 0 ≡ s .«next_cell»
+        at-last = rw (is .2, entered-is (is .0)) (unfold held in ap (λ (d : Declaration). d .cell) (written-held (is .0) []))
+
+        by : (k : ℕ) → k ≤ s .visible → getD names′ (k * 4 + 2) 0 < t .declared
+        by k h = ⊎-elim (λ (e : k ≡ s .visible). rw e (omega (arith, at-last, declared-count, sound .next-cell))) (λ (q : k < s .visible). omega (arith, declared-kept .entries (k * 4 + 2) (omega arith), low .cells k q, declared-count)) (eq-or-lt-of-le h)
+
     module _ (text : List ℕ) (x : Name) (letters : x .letters ≡ part text p e) where
       pub declared-scope-in : scope-in text names′ t ≡ one-more x (scope-in text names s)
       unfolding Declares
@@ -159,6 +170,10 @@ module _ (text names : List ℕ) (s : Scope) (sound : Sound names s) (few : s .b
   unfolding opened-scope
   opened-sound = rw (counts-on (s .blocks) (omega arith)) (record { visible = sound .visible; next-cell = sound .next-cell; cells = sound .cells; declared = sound .declared; blocks = few; room = sound .room })
 
+  pub opened-low : Low names s → Low names (opened-scope s)
+  unfolding opened-scope
+  opened-low low = record { cells = low .cells }
+
 module _ (names names′ : List ℕ) (before s : Scope) where
   pub closed-scope-in : (text : List ℕ) → Kept (before .visible) names names′ → scope-in text names′ (closed-scope before s) ≡ closed (scope-in text names before) (scope-in text names′ s)
   unfolding scope-in closed-scope closed
@@ -167,3 +182,7 @@ module _ (names names′ : List ℕ) (before s : Scope) where
   pub closed-sound : Sound names before → Sound names′ s → before .declared ≤ s .declared → Sound names′ (closed-scope before s)
   unfolding closed-scope
   closed-sound b t h = record { visible = omega arith; next-cell = t .next-cell; cells = t .cells; declared = t .declared; blocks = b .blocks; room = t .room }
+
+  pub closed-low : Low names before → Kept (before .visible) names names′ → before .declared ≤ s .declared → Low names′ (closed-scope before s)
+  unfolding closed-scope
+  closed-low low kept h = record { cells = λ k q. omega (arith, kept .entries (k * 4 + 2) (omega arith), low .cells k q) }
