@@ -10,10 +10,9 @@ use lib.Dec.{ltb}
 use lib.IntN.{ℤ}
 use lib.ListN.{length, set}
 use lib.Seq.{sets, set-comm, length-sets}
-use Rattle.lexeme.specs.Coded.{sign-code, mul-code, rel-code}
-use Rattle.lexeme.specs.Lexemes as L
-use Rattle.lexeme.specs.Lexemes.{Sign, Mul, Rel}
-use Rattle.sentence.specs.Sentences.{Kind, Sen}
+use Rattle.lexeme.specs.Coded.{kind-of, fixed-number, code-of}
+use Rattle.sentence.proofs.Operators.{number-of}
+use Rattle.sentence.specs.Sentences.{Sign, plus, minus, Mul, times, over, Rel, less, greater, equal, sign, mul, rel, Kind, Sen}
 use Rattle.instruction.specs.Instructions.{Instruction, halt, push-int, load-stack, store-stack, jump, jump-if-false, two-sided, negate, not, read, print-int, print-str, print-str-ln, number, pair}
 use Rattle.meaning.specs.Layout.{of-mul, of-sign, of-rel, size, code}
 use Rattle.meaning.proofs.Laid.{laid}
@@ -108,18 +107,18 @@ put-before table n i is = rw add-one (put-emit table n (suc n) (pair i []) is (o
 
 -- ---- the operations of symbols
 
-pub mul-operation : (o : Mul) → operation-number (mul-code o) ≡ number (of-mul o)
-unfolding operation-number mul-code number
-mul-operation L.times = refl
-mul-operation L.over = refl
+pub mul-operation : (o : Mul) → operation-number (number-of (mul o)) ≡ number (of-mul o)
+unfolding operation-number mul kind-of fixed-number code-of number
+mul-operation times = refl
+mul-operation over = refl
 
-pub sign-operation : (g : Sign) → operation-number (sign-code g) ≡ number (of-sign g)
-unfolding operation-number sign-code number
-sign-operation L.plus = refl
-sign-operation L.minus = refl
+pub sign-operation : (g : Sign) → operation-number (number-of (sign g)) ≡ number (of-sign g)
+unfolding operation-number sign kind-of fixed-number code-of number
+sign-operation plus = refl
+sign-operation minus = refl
 
-pub rel-operation : (r : Rel) → operation-number (rel-code r) ≡ number (of-rel r)
-unfolding operation-number rel-code number
-rel-operation L.less = refl
-rel-operation L.greater = refl
-rel-operation L.equal = refl
+pub rel-operation : (r : Rel) → operation-number (number-of (rel r)) ≡ number (of-rel r)
+unfolding operation-number rel kind-of fixed-number code-of number
+rel-operation less = refl
+rel-operation greater = refl
+rel-operation equal = refl

@@ -1,5 +1,5 @@
 -- Which lexeme stands ahead, by its kind and its number. Assumes nothing.
-use mathlib.Core.Path.{_≡_, refl, sym, ap, _∙_}
+use mathlib.Core.Path.{_≡_, refl, sym, ap, subst, _∙_}
 use mathlib.Core.List.{List}
 use mathlib.Core.Bool.{Bool, true, false}
 use mathlib.Core.Logic.{inl, inr}
@@ -57,11 +57,10 @@ module _ {text : List ℕ} {l : code.Lexeme} where
   told-string h = ap (what-of text (l .place) (l .end)) h
 
   pub no-lit : ((v : ℕ) → l .kind ≡ kind.Literal v → ⊥) → (such : ℕ → State) (other : State) → on-lit (told text l) such other ≡ other
-  unfolding told
+  unfolding told what-of on-lit
   no-lit h such other = by (l .kind) h
     where
       by : (k : Kind) → ((v : ℕ) → k ≡ kind.Literal v → ⊥) → on-lit (what-of text (l .place) (l .end) k) such other ≡ other
-      unfolding what-of on-lit
       by (kind.Literal v) n = absurd (n v refl)
       by kind.Name n = refl
       by kind.Class n = refl
@@ -69,11 +68,10 @@ module _ {text : List ℕ} {l : code.Lexeme} where
       by (kind.Fixed f) n = refl
 
   pub no-name : (l .kind ≡ kind.Name → ⊥) → (such : Name → State) (other : State) → on-name (told text l) such other ≡ other
-  unfolding told
+  unfolding told what-of on-name
   no-name h such other = by (l .kind) h
     where
       by : (k : Kind) → (k ≡ kind.Name → ⊥) → on-name (what-of text (l .place) (l .end) k) such other ≡ other
-      unfolding what-of on-name
       by (kind.Literal v) n = refl
       by kind.Name n = absurd (n refl)
       by kind.Class n = refl
@@ -81,11 +79,10 @@ module _ {text : List ℕ} {l : code.Lexeme} where
       by (kind.Fixed f) n = refl
 
   pub no-string : (l .kind ≡ kind.Str → ⊥) → (such : Quoted → State) (other : State) → on-string (told text l) such other ≡ other
-  unfolding told
+  unfolding told what-of on-string
   no-string h such other = by (l .kind) h
     where
       by : (k : Kind) → (k ≡ kind.Str → ⊥) → on-string (what-of text (l .place) (l .end) k) such other ≡ other
-      unfolding what-of on-string
       by (kind.Literal v) n = refl
       by kind.Name n = refl
       by kind.Class n = refl
@@ -144,7 +141,7 @@ module _ {A : Type 0} (sort : Sort A) {text : List ℕ} {l : code.Lexeme} (s : S
         which = x .0;
         number = x .1;
         told-so = sort .is-it (told text l) (x .0) (number-told s ∙ x .1);
-        goes = going l refl (λ z. let b : true ≡ false = sym h ∙ ap (sort .test) z ∙ sort .no-end in absurd (coe (ap T b) tt));
+        goes = going l refl (λ z. let b : true ≡ false = sym h ∙ ap (sort .test) z ∙ sort .no-end in absurd (subst (λ (c : Bool). T c) b tt));
       }
 
   pub is-none : sort .test (fixed-number (l .kind)) ≡ false → (f : A → State) (o : State) → sort .on (told text l) f o ≡ o
