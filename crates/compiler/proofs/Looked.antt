@@ -43,7 +43,7 @@ module _ (l : code.Lexeme) where
 
 -- ---- literals, names and strings
 
-module _ {text : List ℕ} {l : code.Lexeme} where
+module _ (text : List ℕ) (l : code.Lexeme) where
   pub told-literal : (v : ℕ) → l .kind ≡ kind.Literal v → told text l ≡ lit v
   unfolding told what-of
   told-literal v h = ap (what-of text (l .place) (l .end)) h
@@ -114,17 +114,26 @@ pub record Sort (A : Type 0) : Type 0 where
   pub other : (f : A → State) (o : State) (l : Lexeme) → test (number-of l) ≡ false → on l f o ≡ o
   pub no-end : test 0 ≡ false
 
-pub signs : Sort Sign
+pub no-end-sign : is-sign 0 ≡ false
 unfolding is-sign code-of
-signs = record { test = is-sign; lexeme = sign; on = on-sign; found = sign-of; is-it = sign-numbered; such = on-a-sign; other = on-no-sign; no-end = refl }
+no-end-sign = refl
 
-pub muls : Sort Mul
+abbrev pub signs : Sort Sign
+signs = record { test = is-sign; lexeme = sign; on = on-sign; found = sign-of; is-it = sign-numbered; such = on-a-sign; other = on-no-sign; no-end = no-end-sign }
+
+pub no-end-mul : is-mul 0 ≡ false
 unfolding is-mul code-of
-muls = record { test = is-mul; lexeme = mul; on = on-mul; found = mul-of; is-it = mul-numbered; such = on-a-mul; other = on-no-mul; no-end = refl }
+no-end-mul = refl
 
-pub rels : Sort Rel
+abbrev pub muls : Sort Mul
+muls = record { test = is-mul; lexeme = mul; on = on-mul; found = mul-of; is-it = mul-numbered; such = on-a-mul; other = on-no-mul; no-end = no-end-mul }
+
+pub no-end-rel : is-rel 0 ≡ false
 unfolding is-rel code-of
-rels = record { test = is-rel; lexeme = rel; on = on-rel; found = rel-of; is-it = rel-numbered; such = on-a-rel; other = on-no-rel; no-end = refl }
+no-end-rel = refl
+
+abbrev pub rels : Sort Rel
+rels = record { test = is-rel; lexeme = rel; on = on-rel; found = rel-of; is-it = rel-numbered; such = on-a-rel; other = on-no-rel; no-end = no-end-rel }
 
 -- the lexeme l is x, of this sort
 pub record Is-one {A : Type 0} (sort : Sort A) (text : List ℕ) (l : code.Lexeme) : Type 0 where

@@ -55,34 +55,34 @@ module _ {text : List ℕ} {l m : code.Lexeme} (s : Stands text l) (allow : ℕ)
   unfolding step at-factor on-lit operand-of
   literal-factor v h =
       passes (omega (arith, s .some (literal-goes l h), next .later)) (next .stands)
-      (onward-number (λ a. at-factor a) (literal-goes l h) next (got-factor (literal (operand-of v))) (λ n a. rw (told-literal {text} {l} v h, lt-ltb v 2147483648 (omega (arith, n v h)))) (λ a. rw (factor-open (literal (operand-of v)) a) (omega arith)))
+      (onward-number text l (λ a. at-factor a) (literal-goes l h) next (got-factor (literal (operand-of v))) (λ n a. rw (told-literal text l v h, lt-ltb v 2147483648 (omega (arith, n v h)))) (λ a. rw (factor-open (literal (operand-of v)) a) (omega arith)))
 
   pub variable-factor : l .kind ≡ kind.Name → Passed factor-way text l m allow (variable (name-of text l))
   unfolding step at-factor on-lit on-name
   variable-factor h =
       passes (omega (arith, s .some (name-goes l h), next .later)) (next .stands)
-      (onward (λ a. at-factor a) (name-goes l h) next (got-factor (variable (name-of text l))) (λ a. rw (told-name {text} {l} h)) (λ a. rw (factor-open (variable (name-of text l)) a) (omega arith)))
+      (onward text l (λ a. at-factor a) (name-goes l h) next (got-factor (variable (name-of text l))) (λ a. rw (told-name text l h)) (λ a. rw (factor-open (variable (name-of text l)) a) (omega arith)))
 
 module _ {text : List ℕ} {l : code.Lexeme} (s : Stands text l) (allow : ℕ) where
   pub no-factor : ((v : ℕ) → l .kind ≡ kind.Literal v → ⊥) → (l .kind ≡ kind.Name → ⊥) → (fixed-number (l .kind) ≡ code-of open-round → ⊥) → Barred factor-way text l allow NoProgram (l .place)
   unfolding step at-factor on
-  no-factor v n h = refuses text l allow want-factor NoProgram (l .place) (none (λ a. step (want-factor a)) (λ a. rw (no-lit {text} {l} v, no-name {text} {l} n, no-fixed s open-round h)))
+  no-factor v n h = refuses text l allow want-factor NoProgram (l .place) (none text l (λ a. step (want-factor a)) (λ a. rw (no-lit text l v, no-name text l n, no-fixed s open-round h)))
 
   pub bracket-too-deep : fixed-number (l .kind) ≡ code-of open-round → allow ≡ 0 → Barred factor-way text l allow TooDeep (l .place)
   unfolding step at-factor on on-lit on-name is code-of verdict depth
   bracket-too-deep h z =
       refuses text l allow want-factor TooDeep (l .place)
-      (too-deep (λ a. step (want-factor a)) (λ a. want-expression (in-bracket a)) (λ a. rw (told-fixed s open-round h)) (λ a. omega arith))
+      (too-deep text l (λ a. step (want-factor a)) (λ a. want-expression (in-bracket a)) (λ a. rw (told-fixed s open-round h)) (λ a. omega arith))
 
   pub bracket-lost : {why : Refusal} {p : ℕ} → fixed-number (l .kind) ≡ code-of open-round → reply.Refused why p ≡ coded (next text (l .end)) → Barred factor-way text l allow why p
   unfolding code-of
-  bracket-lost h e = refuses text l allow want-factor _ _ (lost (λ a. step (want-factor a)) (going l h (λ z. omega arith)) e)
+  bracket-lost h e = refuses text l allow want-factor _ _ (lost text l (λ a. step (want-factor a)) (going l h (λ z. omega arith)) e)
 
   -- `(`, an expression, `)`: one nesting more than is allowed inside
   module _ {m : code.Lexeme} (h : fixed-number (l .kind) ≡ code-of open-round) (then : Follows text l m) where
     opened : Comes text l m (λ (a : Around factor). depth a + suc allow) (λ a. step (want-factor a)) (λ a. step (want-expression (in-bracket a)))
     unfolding step at-factor on on-lit on-name is code-of verdict depth
-    opened = onward (λ a. step (want-factor a)) (going l h (λ z. omega arith)) then (λ a. want-expression (in-bracket a)) (λ a. rw (told-fixed s open-round h)) (λ a. omega arith)
+    opened = onward text l (λ a. step (want-factor a)) (going l h (λ z. omega arith)) then (λ a. want-expression (in-bracket a)) (λ a. rw (told-fixed s open-round h)) (λ a. omega arith)
 
     pub bracket-refused : (why : Refusal) (p : ℕ) → Barred expression-way text m allow why p → Barred factor-way text l (suc allow) why p
     unfolding depth
@@ -97,13 +97,14 @@ module _ {text : List ℕ} {l : code.Lexeme} (s : Stands text l) (allow : ℕ) w
       unfolding whole-expression on is code-of
       bracket-closed met =
           passes (omega (arith, s .order, then .later, p .later, p .stands .order, met .follows .later)) (met .follows .stands)
-          (comes-on to-close (onward (λ a. whole-expression e (in-bracket a)) (going n (met .number) (λ z. omega arith)) (met .follows) (got-factor (bracket e)) (λ a. rw (told-fixed (p .stands) close-round (met .number))) (λ a. rw (factor-open (bracket e) a) (omega arith))))
+          (comes-on to-close (onward text n (λ a. whole-expression e (in-bracket a)) (going n (met .number) (λ z. omega arith)) (met .follows) (got-factor (bracket e)) (λ a. rw (told-fixed (p .stands) close-round (met .number))) (λ a. rw (factor-open (bracket e) a) (omega arith))))
 
-      pub bracket-unclosed : {w : Walk} {need : ℕ} {why : Refusal} {q : ℕ} → w .next ≡ n → Expects text w (code-of close-round) need (Refused why q) → Barred factor-way text l (suc allow) why q
-      unfolding whole-expression on code-of
-      bracket-unclosed {w} is x =
-          refuses text l (suc allow) want-factor _ _
-          (comes-stuck (rw (← is) at to-close) (unmet close-round (λ z. omega arith) (rw is (p .stands)) (λ a. whole-expression e (in-bracket a)) (λ a y h. rw h) x))
+
+    pub bracket-unclosed : (w : Walk) (need : ℕ) (e : Sen Name expression) → Passed expression-way text m (w .next) allow e → (why : Refusal) (q : ℕ) → Expects text w (code-of close-round) need (Refused why q) → Barred factor-way text l (suc allow) why q
+    unfolding whole-expression on code-of
+    bracket-unclosed w need e p why q x =
+        refuses text l (suc allow) want-factor why q
+        (comes-stuck (to-close e p) (unmet text w need why q close-round (λ z. omega arith) (p .stands) (λ a. whole-expression e (in-bracket a)) (λ a y h. rw h) x))
 
 -- ---- terms
 
@@ -118,7 +119,7 @@ module _ {text : List ℕ} {l m : code.Lexeme} (allow : ℕ) (t : Sen Name term)
 
   pub term-whole : muls .test (fixed-number (m .kind)) ≡ false → Passed term-way text l m allow t
   unfolding after-term
-  term-whole h = passes (p .later) (p .stands) (comes-on (comes p) (alike (after-term t) (whole-term t) (λ a. is-none muls (p .stands) h _ _)))
+  term-whole h = passes (p .later) (p .stands) (comes-on (comes p) (alike text m (after-term t) (whole-term t) (λ a. is-none muls (p .stands) h _ _)))
 
 -- ---- expressions
 
@@ -127,7 +128,7 @@ module _ {text : List ℕ} {l : code.Lexeme} (s : Stands text l) (allow : ℕ) w
   unfolding depth step at-expression whole-term
   unsigned-leads h =
       leads in-unsigned (le-refl (l .place)) (λ a. refl)
-      (alike (λ a. step (want-expression a)) (λ a. step (want-factor (in-first (in-unsigned a)))) (λ a. is-none signs s h _ _))
+      (alike text l (λ a. step (want-expression a)) (λ a. step (want-factor (in-first (in-unsigned a)))) (λ a. is-none signs s h _ _))
       (λ t. refl)
 
   pub signed-leads : {m : code.Lexeme} (g : Is-one signs text l) → Follows text l m → Leads text l m allow first-term-way allow term-way (signed (g .which))
@@ -141,7 +142,7 @@ module _ {text : List ℕ} {l m : code.Lexeme} (allow : ℕ) (d : Sen Name expre
 
   pub expression-whole : signs .test (fixed-number (m .kind)) ≡ false → Passed expression-way text l m allow d
   unfolding after-expression
-  expression-whole h = passes (p .later) (p .stands) (comes-on (comes p) (alike (after-expression d) (whole-expression d) (λ a. is-none signs (p .stands) h _ _)))
+  expression-whole h = passes (p .later) (p .stands) (comes-on (comes p) (alike text m (after-expression d) (whole-expression d) (λ a. is-none signs (p .stands) h _ _)))
 
 -- ---- conditions
 
@@ -154,13 +155,13 @@ module _ {text : List ℕ} {l : code.Lexeme} (s : Stands text l) (allow : ℕ) w
   unfolding depth step at-condition on is code-of verdict
   negated-too-deep h z =
       refuses text l allow want-condition TooDeep (l .place)
-      (too-deep (λ a. step (want-condition a)) (λ a. want-condition (in-negated a)) (λ a. rw (told-fixed s NOT h)) (λ a. omega arith))
+      (too-deep text l (λ a. step (want-condition a)) (λ a. want-condition (in-negated a)) (λ a. rw (told-fixed s NOT h)) (λ a. omega arith))
 
   pub comparison-leads : (fixed-number (l .kind) ≡ code-of NOT → ⊥) → Leads text l l allow condition-way allow comparison-way (λ c. c)
   unfolding depth step at-condition on
   comparison-leads h =
       leads (λ a. a) (le-refl (l .place)) (λ a. refl)
-      (alike (λ a. step (want-condition a)) (λ a. step (want-expression (in-left a))) (λ a. rw (no-fixed s NOT h)))
+      (alike text l (λ a. step (want-condition a)) (λ a. step (want-expression (in-left a))) (λ a. rw (no-fixed s NOT h)))
       (λ t. refl)
 
 module _ {text : List ℕ} {l m : code.Lexeme} (allow : ℕ) (d : Sen Name expression) (p : Passed expression-way text l m allow d) where
@@ -176,7 +177,7 @@ module _ {text : List ℕ} {l m : code.Lexeme} (allow : ℕ) (d : Sen Name expre
   unfolding whole-expression
   no-relation h =
       refuses text l allow (λ a. want-expression (in-left a)) NoProgram (m .place)
-      (comes-stuck left-side (none (λ a. whole-expression d (in-left a)) (λ a. is-none rels (p .stands) h _ _)))
+      (comes-stuck left-side (none text m (λ a. whole-expression d (in-left a)) (λ a. is-none rels (p .stands) h _ _)))
 
 pub comparison-refused : (text : List ℕ) (l : code.Lexeme) (allow : ℕ) (why : Refusal) (p : ℕ) → Barred expression-way text l allow why p → Barred comparison-way text l allow why p
 unfolding depth
@@ -184,6 +185,6 @@ comparison-refused text l allow why p q = refuses-within text l allow allow want
 
 -- ---- where what follows a lexeme is no lexeme, nothing is read
 
-pub lost-after : {k : Kind} {X : Type 0} {text : List ℕ} {l m : code.Lexeme} {allow : ℕ} {way : Way k X} {stop : Around k → Lexeme → State} {why : Refusal} {p : ℕ}
+pub lost-after : {k : Kind} {X : Type 0} (text : List ℕ) (l m : code.Lexeme) (allow : ℕ) (way : Way k X) {stop : Around k → Lexeme → State} {why : Refusal} {p : ℕ}
     → Comes text l m (λ (a : Around k). depth a + allow) (λ a. step (way .start a)) stop → (Ends m → ⊥) → reply.Refused why p ≡ coded (next text (m .end)) → Barred way text l allow why p
-lost-after {text} {l} {allow} {way} {stop} c g e = refuses text l allow (way .start) _ _ (comes-stuck c (lost stop g e))
+lost-after text l m allow way {stop} c g e = refuses text l allow (way .start) _ _ (comes-stuck c (lost text m stop g e))

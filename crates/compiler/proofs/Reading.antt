@@ -113,7 +113,7 @@ module _ {I J : Type 0} {text : List ℕ} {limit : I → ℕ} {limit′ : J → 
     same = λ ls a i. subst (λ (d : ℕ). read-via d (f (inner i)) ls ≡ refused why p) (same-limit i) (q .same ls a (inner i));
   }
 
-module _ {I : Type 0} {text : List ℕ} {l : code.Lexeme} {limit : I → ℕ} (f : I → Lexeme → State) where
+module _ {I : Type 0} (text : List ℕ) (l : code.Lexeme) {limit : I → ℕ} (f : I → Lexeme → State) where
   -- two ways that agree on the lexeme are the same
   pub alike : (g : I → Lexeme → State) → ((i : I) → f i (told text l) ≡ g i (told text l)) → Comes text l l limit f g
   alike g e = record {
@@ -219,8 +219,8 @@ pub crosses : {k k′ : Kind} {X X′ : Type 0} {text : List ℕ} {l x m : code.
     → ((a : Around k) → Low (depth a + allow) (verdict (way′ .start (inner a))))
     → ((y : X′) → _≡_ {A = Around k → Lexeme → State} (λ a. way′ .stop y (inner a)) (way .stop (makes y)))
     → Leads text l m allow way allow′ way′ makes
-crosses {way′} {stop} s inner near c e on-it next d t low stops =
-    leads inner (omega (arith, s .some on-it, next .later)) d (comes-on c (onward stop on-it next (λ a. way′ .start (inner a)) (λ a. rw e (t a)) low)) stops
+crosses {text} {x} {way′} {stop} s inner near c e on-it next d t low stops =
+    leads inner (omega (arith, s .some on-it, next .later)) d (comes-on c (onward text x stop on-it next (λ a. way′ .start (inner a)) (λ a. rw e (t a)) low)) stops
 
 -- a construct that begins with another, where nothing was read yet
 pub begins-with : {k k′ : Kind} {X X′ : Type 0} (text : List ℕ) (l : code.Lexeme) (allow : ℕ) (way : Way k X) (allow′ : ℕ) (way′ : Way k′ X′) (makes : X′ → X) (inner : Around k → Around k′)
@@ -246,20 +246,22 @@ pub record Met (text : List ℕ) (l m : code.Lexeme) (w : Fixed) : Type 0 where
   pub number : fixed-number (l .kind) ≡ code-of w
   pub follows : Follows text l m
 
-module _ {text : List ℕ} {w : Walk} {need : ℕ} where
-  pub past : {v : Walk} {g : Gives} → Advances text w need (Done v g) → Past text w v
+module _ (text : List ℕ) (w : Walk) (need : ℕ) where
+  pub past : (v : Walk) (g : Gives) → Advances text w need (Done v g) → Past text w v
   unfolding Advances
-  past a = a .0
+  past v g a = a .0
 
-  pub met : (f : Fixed) {v : Walk} {g : Gives} → Expects text w (code-of f) need (Done v g) → Met text (w .next) (v .next) f
+  pub met : (f : Fixed) (v : Walk) (g : Gives) → Expects text w (code-of f) need (Done v g) → Met text (w .next) (v .next) f
   unfolding Expects Advances
-  met f (inl (n, a)) = record { number = n; follows = a .0 .follows }
-  met f (inr (n, e)) = let z : _≡_ {A = ℕ} 0 1 = cc in absurd (omega arith)
+  met f v g (inl (n, a)) = record { number = n; follows = a .0 .follows }
+  met f v g (inr (n, e)) = let z : _≡_ {A = ℕ} 0 1 = cc in absurd (omega arith)
 
-  -- the lexeme ahead is passed by no state, or what follows is no lexeme
-  pub unmet : {I : Type 0} {limit : I → ℕ} {why : Refusal} {p : ℕ} (f : Fixed) → (code-of f ≡ 0 → ⊥) → Stands text (w .next) → (to : I → Lexeme → State) → ((i : I) (x : Lexeme) → is f x ≡ false → to i x ≡ nowhere) → Expects text w (code-of f) need (Refused why p) → Stuck text (w .next) limit to why p
+  -- no state passes the lexeme ahead, or what follows it is no lexeme
+  pub unmet : {I : Type 0} {limit : I → ℕ} (why : Refusal) (p : ℕ) (f : Fixed) → (code-of f ≡ 0 → ⊥) → Stands text (w .next) → (to : I → Lexeme → State) → ((i : I) (x : Lexeme) → is f x ≡ false → to i x ≡ nowhere) → Expects text w (code-of f) need (Refused why p) → Stuck text (w .next) limit to why p
   unfolding Expects Advances
-  unmet f n s to t (inl (h, a)) = lost to (going (w .next) h n) a
-  unmet f n s to t (inr (h, e)) =
-      let it : Stuck text (w .next) _ to NoProgram (w .next .place) = none to (λ i. t i (told text (w .next)) (no-fixed s f h)) in
-      cc
+  unmet why p f n s to t (inl (h, a)) = lost text (w .next) to (going (w .next) h n) a
+  unmet {limit} why p f n s to t (inr (h, e)) =
+      let it : Stuck text (w .next) limit to NoProgram (w .next .place) = none text (w .next) to (λ i. t i (told text (w .next)) (no-fixed s f h)) in
+      let a : why ≡ NoProgram = cc in
+      let b : p ≡ w .next .place = cc in
+      rw (a, b) it
