@@ -98,6 +98,7 @@ fn enter(names: &mut [usize], k: usize, p: usize, e: usize, cell: usize, block: 
     names[at + 3] = block;
 }
 
+// The counts after one declaration more.
 fn with_one_more(s: Scope) -> Scope
     ensures { λ r. ⌜ r ≡ declared-scope s ⌝ }
 {
