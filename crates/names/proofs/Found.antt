@@ -3,34 +3,27 @@ use mathlib.Core.Path.{_≡_, refl, sym, ap, _∙_}
 use mathlib.Core.List.{List, [], _∷_}
 use mathlib.Core.Bool.{Bool, true, false, cond}
 use Prim.Native.Nat.{ℕ, zero, suc, _-_, _/_, _≤_, _<_, min}
-use native.Mathlib.Nat.{add-zero}
 use native.Mathlib.Omega.{arith}
 use lib.Dec.{ltb}
-use lib.ListN.{length, getD, drop, length-take, length-drop}
-use lib.Seq.{getD-take, getD-drop}
-use borrow.Author.Tests.{lt-ltb, ltb-true, ltb-false}
+use lib.ListN.{length, getD, take, drop}
+use lib.Seq.{drop-cons}
+use borrow.Author.Tests.{ne-eqb, lt-ltb, ltb-true, ltb-false}
 use Rattle.base.specs.Bytes.{part, same}
-use Rattle.base.proofs.Words.{same-long, same-stop}
 use Rattle.names.specs.Names.{Declaration}
 use Rattle.names.specs.Held.{held, visible-in, found}
 use Rattle.names.specs.declared.Cell.{Cell}
 use Rattle.names.specs.declared.Cell.the-variants.{At, Nowhere}
 
--- a part that the text has all of, beside a word of another length, or with another first letter
-module _ (text : List ℕ) (p e : ℕ) (word : List ℕ) (some : p < e) (fits : e ≤ length text) where
-  part-length : length (part text p e) ≡ e - p
-  unfolding part
-  part-length = simp (length-take, length-drop) (omega arith)
+-- a word with another first letter
+other-first : (n x : ℕ) (xs word : List ℕ) → 0 < length word → (x ≡ getD word 0 0 → ⊥) → false ≡ same (take n (x ∷ xs)) word
+unfolding same
+other-first n x xs [] h d = absurd (omega arith)
+other-first zero x xs (w ∷ ws) h d = refl
+other-first (suc n) x xs (w ∷ ws) h d = rw (ne-eqb x w d, same)
 
-  pub other-length : (e - p ≡ length word → ⊥) → false ≡ same (part text p e) word
-  other-length n = same-long (part text p e) word (λ h. n (sym part-length ∙ h))
-
-  pub other-letter : 0 < length word → (getD text p 0 ≡ getD word 0 0 → ⊥) → false ≡ same (part text p e) word
-  unfolding part
-  other-letter h n = same-stop (part text p e) word 0 (omega (arith, part-length)) h (λ q. n (sym first ∙ q))
-    where
-      first : getD (part text p e) 0 0 ≡ getD text p 0
-      first = getD-take (e - p) (drop p text) 0 0 (omega arith) ∙ (getD-drop p text 0 0 ∙ rw add-zero)
+pub other-letter : (text : List ℕ) (p : ℕ) (word : List ℕ) → p < length text → 0 < length word → (getD text p 0 ≡ getD word 0 0 → ⊥) → (e : ℕ) → false ≡ same (part text p e) word
+unfolding part
+other-letter text p word h k d e = rw (drop-cons text p 0) (other-first (e - p) (getD text p 0) (drop (suc p) text) word k d)
 
 -- the cell of a list's first declaration, or of a later one
 abbrev picked : Declaration → List Declaration → List ℕ → Bool → Cell

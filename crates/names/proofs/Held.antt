@@ -1,12 +1,11 @@
 -- How the code holds a scope, for whoever calls it: a use, a declaration and a block do to the scope held what names do to a scope. Assumes nothing.
 use mathlib.Core.Path.{_≡_, refl, sym, ap, _∙_}
 use mathlib.Core.List.{List, [], _∷_}
-use mathlib.Core.Bool.{Bool, true, false, cond}
+use mathlib.Core.Bool.{Bool, true, false}
 use Prim.Native.Nat.{ℕ, zero, suc, _+_, _*_, _/_, _≤_, _<_}
 use native.Mathlib.Nat.{add-zero, eq-or-lt-of-le}
 use mathlib.Core.Logic.{⊎-elim}
 use native.Mathlib.Omega.{arith}
-use lib.Dec.{ltb}
 use lib.ListN.{length, getD, set, length-set}
 use lib.Seq.{sets, length-sets, getD-set-same, getD-set-other}
 use borrow.Author.Tests.{lt-ltb, le-ltb}
@@ -15,13 +14,25 @@ use Rattle.base.specs.Answers.{Answer, given, refused}
 use Rattle.base.specs.Bytes.{part, same}
 use Rattle.lexeme.specs.Lexemes.{Name}
 use Rattle.names.specs.Names as N
-use Rattle.names.specs.Names.{Declaration, Known, look-up, used, one-more, declared-here, opened, closed}
+use Rattle.names.specs.Names.{Declaration, nothing-declared, Known, look-up, used, one-more, declared-here, opened, closed}
 use Rattle.names.specs.Held.{held, visible-in, scope-in, found, counted, declared-scope, entered, Declares, opened-scope, closed-scope, Sound, Low, Kept}
 use Rattle.names.specs.declared.Scope.{Scope}
 use Rattle.names.specs.declared.Cell.{Cell}
 use Rattle.names.specs.declared.Cell.the-variants.{At, Nowhere}
 use Rattle.names.specs.declared.Declared.the-variants.{Is, TooMany}
 use Rattle.names.proofs.Found.{visible-suc}
+
+-- ---- the beginning of a text
+
+abbrev pub nothing-yet : Scope
+nothing-yet = record { visible = 0; declared = 0; «next_cell» = 0; cells = 0; blocks = 0 }
+
+pub nothing-scope-in : (text names : List ℕ) → scope-in text names nothing-yet ≡ nothing-declared
+unfolding scope-in visible-in
+nothing-scope-in text names = refl
+
+pub nothing-sound : (names : List ℕ) → length names ≤ 1000000 → Sound names nothing-yet
+nothing-sound names h = record { visible = omega arith; next-cell = omega arith; cells = omega arith; declared = omega arith; blocks = omega arith; room = h }
 
 -- ---- a use
 
@@ -56,18 +67,18 @@ pub kept-then : {k l : ℕ} {a b c : List ℕ} → Kept k a b → Kept l b c →
 kept-then f g h = record { count = g .count ∙ f .count; entries = λ i q. g .entries i (omega arith) ∙ f .entries i q }
 
 module _ (text names names′ : List ℕ) where
-  held-kept : (k : ℕ) → Kept (suc k) names names′ → held text names′ k ≡ held text names k
+  kept-held : (k : ℕ) → Kept (suc k) names names′ → held text names′ k ≡ held text names k
   unfolding held
-  held-kept k h = rw (h .entries (k * 4) (omega arith), h .entries (k * 4 + 1) (omega arith), h .entries (k * 4 + 2) (omega arith), h .entries (k * 4 + 3) (omega arith))
+  kept-held k h = rw (h .entries (k * 4) (omega arith), h .entries (k * 4 + 1) (omega arith), h .entries (k * 4 + 2) (omega arith), h .entries (k * 4 + 3) (omega arith))
 
-  pub visible-kept : (k : ℕ) → Kept k names names′ → visible-in text names′ k ≡ visible-in text names k
+  kept-visible : (k : ℕ) → Kept k names names′ → visible-in text names′ k ≡ visible-in text names k
   unfolding visible-in
-  visible-kept zero h = refl
-  visible-kept (suc k) h = rw (h .count, held-kept k h, visible-kept k (record { count = h .count; entries = λ i q. h .entries i (omega arith) }))
+  kept-visible zero h = refl
+  kept-visible (suc k) h = rw (h .count, kept-held k h, kept-visible k (record { count = h .count; entries = λ i q. h .entries i (omega arith) }))
 
-  pub scope-kept : (s : Scope) → Kept (s .visible) names names′ → scope-in text names′ s ≡ scope-in text names s
+  pub kept-scope : (s : Scope) → Kept (s .visible) names names′ → scope-in text names′ s ≡ scope-in text names s
   unfolding scope-in
-  scope-kept s h = rw (visible-kept (s .visible) h)
+  kept-scope s h = rw (kept-visible (s .visible) h)
 
 -- ---- a declaration
 
@@ -110,7 +121,7 @@ module _ (names : List ℕ) (s : Scope) (p e : ℕ) (sound : Sound names s) wher
           at j h = in-sets entry names (s .visible * 4) j (omega arith) h
 
       written-visible : visible-in text written (suc (s .visible)) ≡ record { letters = part text p e; cell = s .«next_cell»; block = s .blocks } ∷ visible-in text names (s .visible)
-      written-visible = visible-suc text written (s .visible) (omega (arith, written-kept .count)) ∙ rw (written-held, visible-kept text names written (s .visible) written-kept)
+      written-visible = visible-suc text written (s .visible) (omega (arith, written-kept .count)) ∙ rw (written-held, kept-visible text names written (s .visible) written-kept)
 
       written-scope : (x : Name) → x .letters ≡ part text p e → scope-in text written (declared-scope s) ≡ one-more x (scope-in text names s)
       unfolding scope-in declared-scope one-more
@@ -155,16 +166,16 @@ module _ (names : List ℕ) (s : Scope) (p e : ℕ) (sound : Sound names s) wher
       unfolding declared-here scope-in Declares
       declared-given = rw (lt-ltb (s .declared) (length names / 4) (is .0)) (ap (λ (k : N.Scope). given (record { what = s .«next_cell»; scope = k })) (sym declared-scope-in))
 
-  pub declared-too-many : (names′ : List ℕ) → Declares names s p e TooMany names′ → (text : List ℕ) (x : Name) → declared-here (length names / 4) x (scope-in text names s) ≡ refused TooManyDeclared (x .place)
-  unfolding declared-here scope-in Declares
-  declared-too-many names′ is text x = rw (le-ltb (s .declared) (length names / 4) (is .0))
+pub declared-too-many : (names : List ℕ) (s : Scope) (p e : ℕ) (names′ : List ℕ) → Declares names s p e TooMany names′ → (text : List ℕ) (x : Name) → declared-here (length names / 4) x (scope-in text names s) ≡ refused TooManyDeclared (x .place)
+unfolding declared-here scope-in Declares
+declared-too-many names s p e names′ is text x = rw (le-ltb (s .declared) (length names / 4) (is .0))
 
 -- ---- a block
 
-module _ (text names : List ℕ) (s : Scope) (sound : Sound names s) (few : s .blocks < 1000000) where
-  pub opened-scope-in : scope-in text names (opened-scope s) ≡ opened (scope-in text names s)
+module _ (names : List ℕ) (s : Scope) (sound : Sound names s) (few : s .blocks < 1000000) where
+  pub opened-scope-in : (text : List ℕ) → scope-in text names (opened-scope s) ≡ opened (scope-in text names s)
   unfolding scope-in opened-scope opened
-  opened-scope-in = rw (counts-on (s .blocks) (omega arith))
+  opened-scope-in text = rw (counts-on (s .blocks) (omega arith))
 
   pub opened-sound : Sound names (opened-scope s)
   unfolding opened-scope
@@ -177,7 +188,7 @@ module _ (text names : List ℕ) (s : Scope) (sound : Sound names s) (few : s .b
 module _ (names names′ : List ℕ) (before s : Scope) where
   pub closed-scope-in : (text : List ℕ) → Kept (before .visible) names names′ → scope-in text names′ (closed-scope before s) ≡ closed (scope-in text names before) (scope-in text names′ s)
   unfolding scope-in closed-scope closed
-  closed-scope-in text h = rw (visible-kept text names names′ (before .visible) h)
+  closed-scope-in text h = rw (kept-visible text names names′ (before .visible) h)
 
   pub closed-sound : Sound names before → Sound names′ s → before .declared ≤ s .declared → Sound names′ (closed-scope before s)
   unfolding closed-scope

@@ -2,7 +2,7 @@
 ghost use mathlib.Core.Path.{_≡_};
 ghost use mathlib.Core.List.{[], _∷_};
 ghost use mathlib.Core.Bool.{true, false};
-ghost use Prim.Native.Nat.{_*_, _/_, _<_};
+ghost use Prim.Native.Nat.{ℕ, _*_, _/_, _<_};
 ghost use lib.ListN.{length};
 ghost use lib.Seq.{sets};
 ghost use Rattle.base.specs.Bytes.{part, same};
@@ -44,33 +44,30 @@ fn one_more(n: usize) -> usize
     n
 }
 
-// Whether the part of the text from p up to e differs from the word in its length or its first letter. Where it is beyond the text, that is not said.
-fn is_other(text: &[u8], p: usize, e: usize, word: &[u8]) -> bool
-    ensures { λ r. ⌜ (r ≡ true → false ≡ same (part (now (text .entry)) p e) (now (word .entry))) ⌝ }
+// Whether the word is another than any that begins at the place p, by its first letter.
+fn is_other(text: &[u8], p: usize, word: &[u8]) -> bool
+    ensures { λ r. ⌜ (r ≡ true → (e : ℕ) → false ≡ same (part (now (text .entry)) p e) (now (word .entry))) ⌝ }
 {
-    if e <= p {
+    if word.len() == 0 {
         return false;
     }
-    if text.len() < e {
+    if text.len() <= p {
         return false;
-    }
-    if e - p != word.len() {
-        return true;
     }
     text[p] != word[0]
 }
 
-// Whether the k-th declaration of the list has these letters. Most have others, which is seen without a loop.
+// Whether the k-th declaration of the list has these letters. Most begin with another letter.
 fn is_named(text: &[u8], names: &[usize], k: usize, word: &[u8]) -> bool
     requires { ⌜ k < length (now names) / 4 ⌝ }
     ensures { λ r. ⌜ r ≡ same (held (now (text .entry)) (now (names .entry)) k .letters) (now (word .entry)) ⌝ }
 {
     let at = k * 4;
     let p = names[at];
-    let e = names[at + 1];
-    if is_other(text, p, e, word) {
+    if is_other(text, p, word) {
         return false;
     }
+    let e = names[at + 1];
     base::is_same(base::part(text, p, e), word)
 }
 
@@ -101,6 +98,7 @@ fn enter(names: &mut [usize], k: usize, p: usize, e: usize, cell: usize, block: 
     names[at + 3] = block;
 }
 
+// The counts after one declaration more.
 fn with_one_more(s: Scope) -> Scope
     ensures { λ r. ⌜ r ≡ declared-scope s ⌝ }
 {

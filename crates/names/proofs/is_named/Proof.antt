@@ -13,6 +13,13 @@ mul-p c = search needs
 shared-slice-read-p : tie.Need-shared-slice-read-p
 shared-slice-read-p c = search needs
 
+is-other-requires : tie.Need-is-other-requires
+is-other-requires c κs = search needs
+
+returns : tie.Need-returns
+unfolding held
+returns c = c .before .is-other .ensures (c .if1 .taken) _
+
 add-e : tie.Need-add-e
 add-e c = search needs
 
@@ -21,13 +28,6 @@ mul-e c = search needs
 
 shared-slice-read-e : tie.Need-shared-slice-read-e
 shared-slice-read-e c = search needs
-
-is-other-requires : tie.Need-is-other-requires
-is-other-requires c κs = search needs
-
-returns : tie.Need-returns
-unfolding held
-returns c = c .before .is-other .ensures (c .if1 .taken)
 
 part-requires : tie.Need-part-requires
 part-requires c κs = search needs
@@ -46,11 +46,11 @@ is-named-spec =
     mul-at
     mul-p
     shared-slice-read-p
+    is-other-requires
+    returns
     add-e
     mul-e
     shared-slice-read-e
-    is-other-requires
-    returns
     part-requires
     is-same-requires
     returns-2)

@@ -2,10 +2,9 @@
 use mathlib.Core.Path.{_≡_}
 use Prim.Native.Nat.{ℕ}
 use native.Mathlib.Omega.{arith}
-use denote.Ref.{now}
 use borrow.Author.Tests.{not-true, eqb-false}
-use Rattle.names.proofs.Found.{other-length, other-letter}
 use borrow.Author.Needs.{needs}
+use Rattle.names.proofs.Found.{other-letter}
 use Rattle.names.proofs.is_other.Statement.{statement}
 use Rattle.names.proofs.is_other.Tie as tie
 
@@ -15,29 +14,16 @@ returns c = λ h. let z : _≡_ {A = ℕ} 0 1 = cc in absurd (omega arith)
 returns-2 : tie.Need-returns-2
 returns-2 c = λ h. let z : _≡_ {A = ℕ} 0 1 = cc in absurd (omega arith)
 
-sub-if3 : tie.Need-sub-if3
-sub-if3 c = search needs
-
-returns-3 : tie.Need-returns-3
-returns-3 c = λ _. other-length (now (c .before .before .before .args .text)) (c .before .before .before .args .p) (c .before .before .before .args .e) (now (c .before .before .before .args .word)) (omega arith) (omega arith) (c .if3 .taken)
-
 shared-slice-read-result : tie.Need-shared-slice-read-result
 shared-slice-read-result c = search needs
 
 shared-slice-read-result-2 : tie.Need-shared-slice-read-result-2
 shared-slice-read-result-2 c = search needs
 
-returns-4 : tie.Need-returns-4
-returns-4 c = λ h. other-letter (now (c .before .before .before .before .before .args .text)) (c .before .before .before .before .before .args .p) (c .before .before .before .before .before .args .e) (now (c .before .before .before .before .before .args .word)) (omega arith) (omega arith) (omega arith) (eqb-false _ _ (not-true _ h))
+returns-3 : tie.Need-returns-3
+returns-3 c = λ h. other-letter _ _ _ (c .before .before .if2 .left) (omega arith) (eqb-false _ _ (not-true _ h))
 
 pub is-other-spec : {M : Type 1} → statement M
 is-other-spec =
     tie.close
-    (tie.spec
-    returns
-    returns-2
-    sub-if3
-    returns-3
-    shared-slice-read-result
-    shared-slice-read-result-2
-    returns-4)
+    (tie.spec returns returns-2 shared-slice-read-result shared-slice-read-result-2 returns-3)
