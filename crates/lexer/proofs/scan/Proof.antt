@@ -6,9 +6,9 @@ use borrow.Author.Needs.{needs}
 use denote.Ref.{now}
 use lib.Dec.{lit<}
 use lib.ListN.{length}
-use Rattle.lexeme.specs.Lexemes.{Sizes}
+use Rattle.lexeme.specs.Lexemes.{Sizes, end}
 use Rattle.lexeme.specs.Coded.{code-of, fixed-number, Ends}
-use Rattle.lexeme.proofs.Decoded.{fixed-kind}
+use Rattle.lexeme.proofs.Decoded.{number-fixed}
 use Rattle.lexeme.proofs.Places.{next-stands}
 use Rattle.lexeme.proofs.Scans.{Scan, scan-starts, scan-refused, scan-large, scan-ends, scan-on}
 use Rattle.lexer.proofs.scan.Statement.{statement}
@@ -58,7 +58,7 @@ returns-3 : tie.Need-returns-3 Inv-loop μ-loop
 unfolding code-of
 returns-3 c =
     let e = c .before .before .before .before .before .found .given .1 in
-    scan-ends most (now (c .before .before .before .before .before .before .before .before .before .before .args .text)) (c .before .before .before .before .before .before .before .before .loop .at) (c .before .before .before .before .before .before .before .before .loop .inv) small _ (sym e ∙ c .before .before .before .before .before .before .before .next .ensures) (fixed-kind _ 0 (lit< tt) (sym (c .before .fixed-of .ensures) ∙ c .if2 .taken))
+    scan-ends most (now (c .before .before .before .before .before .before .before .before .before .before .args .text)) (c .before .before .before .before .before .before .before .before .loop .at) (c .before .before .before .before .before .before .before .before .loop .inv) small _ (sym e ∙ c .before .before .before .before .before .before .before .next .ensures) (number-fixed _ end (sym (c .before .fixed-of .ensures) ∙ c .if2 .taken))
 
 no-end : (c : tie.Else2 Inv-loop μ-loop) → Ends (c .before .before .before .before .before .found .given .0 .0) → ⊥
 unfolding code-of fixed-number
