@@ -9,12 +9,12 @@ use Rattle.base.specs.declared.Refusal.{Refusal}
 use Rattle.base.specs.Answers.{Answer, given, refused, pass}
 use Rattle.lexeme.specs.Lexemes as lexemes
 use Rattle.lexeme.specs.Lexemes.{lit, name, class, string, fixed, end, Placed, Next, lexeme, nothing, Sizes, next, too-large, lexemes-from, lexemes}
-use Rattle.lexeme.specs.Coded.{kind-of, coded, what-of, told, placed, Ends, Number, Ahead, last, more}
+use Rattle.lexeme.specs.Coded.{kind-of, coded, placed, Ends, Number, Ahead, last, more}
 use Rattle.lexeme.specs.declared.Kind.the-variants as kind
 use borrow.Author.Tests.{ltb-false}
 use Rattle.lexeme.specs.declared.Lexeme.{Lexeme}
 use Rattle.lexeme.specs.declared.Found.the-variants.{Is, Refused}
-use Rattle.lexeme.proofs.Decoded.{fixed-back}
+use Rattle.lexeme.proofs.Decoded.{told-fixed}
 use Rattle.lexeme.proofs.Places.{code-lexeme, next-fits, next-no-end, next-placed}
 use Rattle.lexeme.proofs.Scans.{from-one, from-large, from-none, from-refused}
 
@@ -38,7 +38,7 @@ module _ (most : Sizes) (text : List ℕ) (small : most .literal ≤ 2147483647)
   -- by what stands next, where the lexemes further on are known
   by-next : (fuel at : ℕ) (ls : List Placed) → ((e : ℕ) (rest : List Placed) → at < e → e ≤ length text → lexemes-from most text fuel e ≡ given rest → From text e rest)
       → lexemes-from most text (suc fuel) at ≡ given ls → From text at ls
-  unfolding coded pass kind-of told what-of
+  unfolding coded pass kind-of
   by-next fuel at ls further is = by-answer (next text at) refl
     where
       one-more : (m : Placed) (e : ℕ) → next text at ≡ given (lexeme m e) → too-large most (m .what) ≡ false → (r : Answer (List Placed)) → lexemes-from most text fuel e ≡ r → pass r (λ rest. given (m ∷ rest)) ≡ given ls → From text at ls
@@ -57,7 +57,7 @@ module _ (most : Sizes) (text : List ℕ) (small : most .literal ≤ 2147483647)
       by-answer (given (lexeme m e)) n = by-size m e n (too-large most (m .what)) refl
       by-answer (given (nothing p)) n =
           let l : Lexeme = code-lexeme (record { place = p; what = fixed end }) p in
-          let split : placed text l ∷ [] ≡ ls = cc (ap fixed (fixed-back end), from-none most text fuel at p n) in
+          let split : placed text l ∷ [] ≡ ls = cc (told-fixed text l end refl, from-none most text fuel at p n) in
           (l, rw n, subst (Ahead text l) split (last l refl))
       by-answer (refused why p) n = absurd (no-refusal (sym (from-refused most text fuel at why p n) ∙ is))
 

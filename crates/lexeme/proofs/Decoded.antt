@@ -1,11 +1,13 @@
 -- The way back from the code's numbers and kinds: equal codes mean equal lexemes. Assumes nothing.
 use mathlib.Core.Path.{_≡_, refl, sym, ap, _∙_}
-use Prim.Native.Nat.{ℕ, _<_}
+use mathlib.Core.List.{List}
+use Prim.Native.Nat.{ℕ}
 use native.Mathlib.Omega.{arith}
-use Rattle.lexeme.specs.Lexemes.{Fixed, becomes, equals-sign, comma, dot, greater-sign, less-sign, plus-sign, minus-sign, star, slash, open-round, close-round, open-square, close-square, open-brace, close-brace, CALL, CLASS, DO, ERROR, FIELDS, IF, INIT, INT, METHOD, NOT, OBJ, PRINTI, PRINTLNS, PRINTS, PROCEDURE, READ, RETURNS, SUBCLASSOF, THEN, USING, WHILE, end}
-use Rattle.lexeme.specs.Coded.{code-of, fixeds, fixed-in, fixed-of, fixed-number}
+use Rattle.lexeme.specs.Lexemes.{fixed, Fixed, becomes, equals-sign, comma, dot, greater-sign, less-sign, plus-sign, minus-sign, star, slash, open-round, close-round, open-square, close-square, open-brace, close-brace, CALL, CLASS, DO, ERROR, FIELDS, IF, INIT, INT, METHOD, NOT, OBJ, PRINTI, PRINTLNS, PRINTS, PROCEDURE, READ, RETURNS, SUBCLASSOF, THEN, USING, WHILE, end}
+use Rattle.lexeme.specs.Coded.{code-of, fixeds, fixed-in, fixed-of, fixed-number, what-of, told}
 use Rattle.lexeme.specs.declared.Kind.{Kind}
 use Rattle.lexeme.specs.declared.Kind.the-variants as kind
+use Rattle.lexeme.specs.declared.Lexeme.{Lexeme}
 
 pub fixed-back : (f : Fixed) → fixed-of (code-of f) ≡ f
 unfolding fixed-of fixed-in fixeds code-of
@@ -51,11 +53,23 @@ fixed-back end = refl
 pub code-of-injective : (f g : Fixed) → code-of f ≡ code-of g → f ≡ g
 code-of-injective f g e = sym (fixed-back f) ∙ ap fixed-of e ∙ fixed-back g
 
--- 255 is the number of no fixed lexeme
-pub fixed-kind : (k : Kind) (n : ℕ) → n < 255 → fixed-number k ≡ n → k ≡ kind.Fixed n
+-- 255 is the number of none
+no-code : (f : Fixed) → code-of f ≡ 255 → ⊥
+unfolding fixed-of fixed-in fixeds code-of
+no-code f e =
+    let g : end ≡ f = ap fixed-of (sym e) ∙ fixed-back f in
+    let z : 0 ≡ code-of f = ap code-of g in
+    omega arith
+
+pub number-fixed : (k : Kind) (f : Fixed) → fixed-number k ≡ code-of f → k ≡ kind.Fixed (code-of f)
 unfolding fixed-number
-fixed-kind (kind.Literal v) n h e = absurd (omega arith)
-fixed-kind kind.Name n h e = absurd (omega arith)
-fixed-kind kind.Class n h e = absurd (omega arith)
-fixed-kind kind.Str n h e = absurd (omega arith)
-fixed-kind (kind.Fixed f) n h e = ap kind.Fixed e
+number-fixed (kind.Literal v) f e = absurd (no-code f (sym e))
+number-fixed kind.Name f e = absurd (no-code f (sym e))
+number-fixed kind.Class f e = absurd (no-code f (sym e))
+number-fixed kind.Str f e = absurd (no-code f (sym e))
+number-fixed (kind.Fixed n) f e = ap kind.Fixed e
+
+-- what the code's lexeme of a fixed one is
+pub told-fixed : (text : List ℕ) (l : Lexeme) (f : Fixed) → l .kind ≡ kind.Fixed (code-of f) → told text l ≡ fixed f
+unfolding told what-of
+told-fixed text l f e = ap (what-of text (l .place) (l .end)) e ∙ ap fixed (fixed-back f)

@@ -5,17 +5,13 @@ use mathlib.Core.Bool.{true, false}
 use Prim.Native.Nat.{ℕ, zero, suc, _-_, _≤_, _<_}
 use native.Mathlib.Omega.{arith}
 use lib.ListN.{length}
-use types.Run.{OneOf, miss}
-use denote.Enum.Declared.{tagOf}
 use Rattle.base.specs.declared.Refusal.{Refusal}
 use Rattle.base.specs.declared.Refusal.the-variants.{TooLarge}
 use Rattle.base.specs.Answers.{Answer, given, refused, pass}
 use Rattle.lexeme.specs.Lexemes.{fixed, end, Placed, lexeme, nothing, Sizes, next, too-large, sized, lexemes-from, lexemes}
 use Rattle.lexeme.specs.Coded.{kind-of, coded, scanned, large, Ends}
 use Rattle.lexeme.specs.declared.Lexeme.{Lexeme}
-use Rattle.lexeme.specs.declared.Found.{Found}
 use Rattle.lexeme.specs.declared.Found.the-variants.{Is, Refused}
-use Rattle.lexeme.proofs.Found.{the-type}
 use Rattle.lexeme.proofs.Places.{Reading, one, none, reading, next-fits, next-no-end, next-large, coded-refused}
 
 module _ (most : Sizes) (text : List ℕ) where
@@ -55,10 +51,9 @@ module _ (most : Sizes) (text : List ℕ) where
   scanned-more m (refused why p) = refl
 
   module _ (at : ℕ) (s : Scan at) where
-    pub scan-refused : (r : Found) → r ≡ coded (next text at) → OneOf (1 ∷ []) (tagOf the-type r) → r ≡ scanned text (lexemes most text)
+    pub scan-refused : (why : Refusal) (p : ℕ) → Refused why p ≡ coded (next text at) → Refused why p ≡ scanned text (lexemes most text)
     unfolding scanned
-    scan-refused (Is l) h t = absurd (miss (1 ∷ []) 0 tt t)
-    scan-refused (Refused why p) h t = ap (scanned text) (sym (from-refused (s .fuel) at why p (coded-refused (next text at) why p h))) ∙ s .same
+    scan-refused why p h = ap (scanned text) (sym (from-refused (s .fuel) at why p (coded-refused (next text at) why p h))) ∙ s .same
 
     module _ (small : most .literal < 4294967295) (l : Lexeme) (is : Is l ≡ coded (next text at)) where
       pub scan-large : large most (l .kind) (l .end - l .place) ≡ true → Refused TooLarge (l .place) ≡ scanned text (lexemes most text)

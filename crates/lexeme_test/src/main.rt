@@ -2,6 +2,7 @@
 use lexeme::Found;
 use lexeme::Kind;
 use lexeme::Lexeme;
+use lexeme::fixed;
 
 fn say(text: &[u8]) {
     io::write_all(1, text);
@@ -18,9 +19,6 @@ fn say_kind(kind: Kind) {
         Kind::Name => say(b" name"),
         Kind::Class => say(b" class"),
         Kind::Str => say(b" string"),
-        Kind::Sign(n) => say_number(b" sign ", n as u64),
-        Kind::Mul(n) => say_number(b" mul ", n as u64),
-        Kind::Rel(n) => say_number(b" rel ", n as u64),
         Kind::Fixed(n) => say_number(b" fixed ", n as u64),
     }
 }
@@ -35,11 +33,11 @@ fn say_lexeme(l: Lexeme) {
 
 fn say_last(found: Found) {
     match found {
-        Found::Refused(n, p) => {
-            say_number(b" refused ", n as u64);
+        Found::Refused(why, p) => {
+            say_number(b" refused ", base::number(why) as u64);
             say_number(b" ", p as u64);
         }
-        _ => say(b" end"),
+        Found::Is(_) => say(b" end"),
     }
 }
 
@@ -51,6 +49,11 @@ fn say_lexemes(text: &[u8]) {
             say_last(found);
             return;
         };
+        let kind = l.kind;
+        if lexeme::fixed_of(kind) == fixed::END {
+            say_last(found);
+            return;
+        }
         say_lexeme(l);
         at = l.end;
     }

@@ -7,9 +7,9 @@ use borrow.Author.Tests.{ne-eqb}
 use denote.Ref.{now}
 use lib.ListN.{getD, drop, length-drop}
 use Rattle.base.specs.Bytes.{letter-or-digit}
-use Rattle.lexeme.specs.Lexemes.{Sizes, next}
+use Rattle.lexeme.specs.Lexemes.{next}
 use Rattle.base.specs.Kinds.{such}
-use Rattle.lexeme.specs.Coded.{coded}
+use Rattle.lexeme.specs.Coded.{coded, code-of}
 use Rattle.base.proofs.Runs.{run-part, run-fits}
 use Rattle.lexeme.proofs.Places.{here-end, here-word, here-other, other}
 use borrow.Author.Needs.{needs}
@@ -20,8 +20,8 @@ run-end-requires : tie.Need-run-end-requires
 run-end-requires c κs = search needs
 
 returns : tie.Need-returns
-unfolding next such coded
-returns c = rw (← c .before .run-end .ensures) (ap coded (here-end _ _ _ (c .if1 .taken)))
+unfolding next such coded code-of
+returns c = rw (← c .before .run-end .ensures) (ap coded (here-end _ _ (c .if1 .taken)))
 
 shared-slice-read-b : tie.Need-shared-slice-read-b
 shared-slice-read-b c = search needs
@@ -53,7 +53,7 @@ unfolding next such
 returns-2 c =
     let text = now (c .before .before .before .before .before .before .before .before .before .args .text) in
     let p = c .before .before .before .before .before .before .before .run-end .result in
-    rw (← c .before .before .before .before .before .before .before .run-end .ensures, here-word _ text p (omega arith) (sym (c .before .before .before .before .is-such .ensures) ∙ c .before .before .before .if2 .taken), ← run-part letter-or-digit text p _ (c .before .before .run-end2 .ensures))
+    rw (← c .before .before .before .before .before .before .before .run-end .ensures, here-word text p (omega arith) (sym (c .before .before .before .before .is-such .ensures) ∙ c .before .before .before .if2 .taken), ← run-part letter-or-digit text p _ (c .before .before .run-end2 .ensures))
     (c .word-at .ensures)
 
 -- the text, and the place after the separators
@@ -64,9 +64,9 @@ abbrev place-of : tie.Else2 → ℕ
 place-of c = c .before .before .before .before .run-end .result
 
 -- at a byte that is no letter and no digit
-at-other : (c : tie.Else2) (most : Sizes) → next most (text-of c) (c .before .before .before .before .before .before .args .at) ≡ other most (text-of c) (place-of c) (getD (text-of c) (place-of c) 0)
+at-other : (c : tie.Else2) → next (text-of c) (c .before .before .before .before .before .before .args .at) ≡ other (text-of c) (place-of c) (getD (text-of c) (place-of c) 0)
 unfolding next such
-at-other c most = rw (← c .before .before .before .before .run-end .ensures) (here-other most _ _ (omega arith) (sym (c .before .is-such .ensures) ∙ c .if2 .left))
+at-other c = rw (← c .before .before .before .before .run-end .ensures) (here-other _ _ (omega arith) (sym (c .before .is-such .ensures) ∙ c .if2 .left))
 
 string-at-requires : tie.Need-string-at-requires
 string-at-requires c κs = search needs
@@ -81,13 +81,13 @@ symbol-at-requires : tie.Need-symbol-at-requires
 symbol-at-requires c κs = search needs
 
 returns-3 : tie.Need-returns-3
-returns-3 c = rw (at-other (c .before .before) _, c .before .match .keys1) (c .string-at .ensures)
+returns-3 c = rw (at-other (c .before .before), c .before .match .keys1) (c .string-at .ensures)
 
 returns-4 : tie.Need-returns-4
-returns-4 c = rw (at-other (c .before .before) _, c .before .match .keys2) (c .colon-at .ensures)
+returns-4 c = rw (at-other (c .before .before), c .before .match .keys2) (c .colon-at .ensures)
 
 returns-5 : tie.Need-returns-5
-returns-5 c = rw (at-other (c .before .before) _, ne-eqb _ 34 (c .before .match .rest .0 .1), ne-eqb _ 58 (c .before .match .rest .1)) (c .symbol-at .ensures)
+returns-5 c = rw (at-other (c .before .before), ne-eqb _ 34 (c .before .match .rest .0 .1), ne-eqb _ 58 (c .before .match .rest .1)) (c .symbol-at .ensures)
 
 pub next-spec : {M : Type 1} → statement M
 next-spec =

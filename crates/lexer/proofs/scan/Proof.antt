@@ -1,28 +1,33 @@
 -- `lexer::scan` meets its contract: the scan from `at` on is the whole scan. Assumes nothing.
-use Prim.Native.Nat.{_-_}
-use mathlib.Core.Path.{_≡_, sym, ap, _∙_}
+use Prim.Native.Nat.{_-_, _<_}
+use mathlib.Core.Path.{sym, ap, _∙_}
 use native.Mathlib.Omega.{arith}
 use borrow.Author.Needs.{needs}
 use denote.Ref.{now}
+use lib.Dec.{lit<}
 use lib.ListN.{length}
-use Rattle.lexeme.specs.Lexemes.{Sizes, lexemes}
-use Rattle.lexeme.specs.Coded.{scanned}
-use Rattle.lexeme.proofs.Places.{found-stands}
-use Rattle.lexeme.proofs.Scans.{rest, rest-whole, scan-on, scan-stop}
+use Rattle.lexeme.specs.Lexemes.{Sizes, end}
+use Rattle.lexeme.specs.Coded.{code-of, fixed-number, Ends}
+use Rattle.lexeme.proofs.Decoded.{number-fixed}
+use Rattle.lexeme.proofs.Places.{next-stands}
+use Rattle.lexeme.proofs.Scans.{Scan, scan-starts, scan-refused, scan-large, scan-ends, scan-on}
 use Rattle.lexer.proofs.scan.Statement.{statement}
 use Rattle.lexer.proofs.scan.Tie as tie
 
 abbrev most : Sizes
 most = record { word = 32; string = 255; literal = 2147483647 }
 
+small : most .literal < 4294967295
+small = lit< tt
+
 abbrev Inv-loop : tie.InvT-loop
-Inv-loop text at₀ at = scanned (rest most text at) ≡ scanned (lexemes most text)
+Inv-loop text at₀ at = Scan most text at
 
 abbrev μ-loop : tie.MeasureT-loop
 μ-loop text at₀ at = length text - at
 
 loop-holds : tie.Need-loop-holds Inv-loop μ-loop
-loop-holds c = ap scanned (sym (rest-whole most _))
+loop-holds c = scan-starts most (now (c .before .args .text))
 
 next-requires : tie.Need-next-requires Inv-loop μ-loop
 next-requires c κs = search needs
@@ -30,18 +35,42 @@ next-requires c κs = search needs
 enum-known-found : tie.Need-enum-known-found Inv-loop μ-loop
 enum-known-found c = search needs
 
+enum-told : tie.Need-enum-told Inv-loop μ-loop
+enum-told c = search needs
+
 returns : tie.Need-returns Inv-loop μ-loop
-returns c = scan-stop most (now (c .before .before .before .before .args .text)) (c .before .before .loop .at) _ (c .before .next .ensures) (c .match .keys2) ∙ c .before .before .loop .inv
+returns c =
+    let e = c .enum-told .given .1 in
+    e ∙ scan-refused most (now (c .before .before .before .before .before .args .text)) (c .before .before .before .loop .at) (c .before .before .before .loop .inv) _ _ (sym e ∙ c .before .before .next .ensures)
+
+is-too-large-requires : tie.Need-is-too-large-requires Inv-loop μ-loop
+is-too-large-requires c κs =
+    next-stands (now (c .before .before .before .before .before .before .args .text)) (c .before .before .before .before .loop .at) _ (c .before .before .before .before .loop .inv .within) (sym (c .before .found .given .1) ∙ c .before .before .before .next .ensures) .1 .order
+
+returns-2 : tie.Need-returns-2 Inv-loop μ-loop
+returns-2 c =
+    scan-large most (now (c .before .before .before .before .before .before .before .before .args .text)) (c .before .before .before .before .before .before .loop .at) (c .before .before .before .before .before .before .loop .inv) small _ (sym (c .before .before .before .found .given .1) ∙ c .before .before .before .before .before .next .ensures) (sym (c .before .is-too-large .ensures) ∙ c .if1 .taken)
+
+fixed-of-requires : tie.Need-fixed-of-requires Inv-loop μ-loop
+fixed-of-requires c κs = search needs
+
+returns-3 : tie.Need-returns-3 Inv-loop μ-loop
+unfolding code-of
+returns-3 c =
+    let e = c .before .before .before .before .before .found .given .1 in
+    scan-ends most (now (c .before .before .before .before .before .before .before .before .before .before .args .text)) (c .before .before .before .before .before .before .before .before .loop .at) (c .before .before .before .before .before .before .before .before .loop .inv) small _ (sym e ∙ c .before .before .before .before .before .before .before .next .ensures) (number-fixed _ end (sym (c .before .fixed-of .ensures) ∙ c .if2 .taken))
+
+no-end : (c : tie.Else2 Inv-loop μ-loop) → Ends (c .before .before .before .before .before .found .given .0 .0) → ⊥
+unfolding code-of fixed-number
+no-end c e = c .if2 .left (c .before .fixed-of .ensures ∙ ap fixed-number e)
 
 loop-less : tie.Need-loop-less Inv-loop μ-loop
 loop-less c =
-    let s = found-stands most (now (c .before .before .before .before .before .before .args .text)) (c .before .before .before .before .loop .at) _ (sym (c .before .found .given .1) ∙ c .before .before .before .next .ensures) in
-    omega arith
+    let s = next-stands (now (c .before .before .before .before .before .before .before .before .before .before .args .text)) (c .before .before .before .before .before .before .before .before .loop .at) _ (c .before .before .before .before .before .before .before .before .loop .inv .within) (sym (c .before .before .before .before .before .found .given .1) ∙ c .before .before .before .before .before .before .before .next .ensures) in
+    omega (arith, s .0, s .1 .some (no-end c), s .1 .within)
 
 loop-again : tie.Need-loop-again Inv-loop μ-loop
-loop-again c =
-    let is = sym (c .before .found .given .1) ∙ c .before .before .before .next .ensures in
-    scan-on most (now (c .before .before .before .before .before .before .args .text)) (c .before .before .before .before .loop .at) _ is ∙ c .before .before .before .before .loop .inv
+loop-again c = scan-on most (now (c .before .before .before .before .before .before .before .before .before .before .args .text)) (c .before .before .before .before .before .before .before .before .loop .at) (c .before .before .before .before .before .before .before .before .loop .inv) small _ (sym (c .before .before .before .before .before .found .given .1) ∙ c .before .before .before .before .before .before .before .next .ensures) (sym (c .before .before .before .is-too-large .ensures) ∙ c .before .before .if1 .left) (no-end c)
 
 pub scan-spec : {M : Type 1} → statement M
 scan-spec =
@@ -52,6 +81,11 @@ scan-spec =
     loop-holds
     next-requires
     enum-known-found
+    enum-told
     returns
+    is-too-large-requires
+    returns-2
+    fixed-of-requires
+    returns-3
     loop-less
     loop-again)

@@ -4,7 +4,7 @@ use borrow.Author.Needs.{needs}
 use Rattle.lexeme.specs.Lexemes.{found}
 use Rattle.base.specs.Kinds.{such}
 use Rattle.lexeme.specs.Coded.{kind-of, coded}
-use Rattle.lexeme.proofs.Words.{string-open, string-long, string-fits}
+use Rattle.lexeme.proofs.Words.{string-open, string-closed}
 use Rattle.lexer.proofs.string_at.Statement.{statement}
 use Rattle.lexer.proofs.string_at.Tie as tie
 
@@ -16,26 +16,14 @@ run-end-requires c κs = search needs
 
 returns : tie.Need-returns
 unfolding such coded
-returns c = ap coded (string-open _ _ _ _ (c .before .run-end .ensures) (c .if1 .taken))
-
-add-if2 : tie.Need-add-if2
-add-if2 c = search needs
-
-sub-if2 : tie.Need-sub-if2
-sub-if2 c = search needs
-
-returns-2 : tie.Need-returns-2
-unfolding such coded
-returns-2 c = ap coded (string-long _ _ _ _ (c .before .before .run-end .ensures) (c .before .if1 .left) (c .if2 .taken))
+returns c = ap coded (string-open _ _ _ (c .before .run-end .ensures) (c .if1 .taken))
 
 add-t4 : tie.Need-add-t4
 add-t4 c = search needs
 
-returns-3 : tie.Need-returns-3
+returns-2 : tie.Need-returns-2
 unfolding such coded kind-of found
-returns-3 c = ap coded (string-fits _ _ _ _ (c .before .before .run-end .ensures) (c .before .if1 .left) (c .if2 .left))
+returns-2 c = ap coded (string-closed _ _ _ (c .before .run-end .ensures) (c .if1 .left))
 
 pub string-at-spec : {M : Type 1} → statement M
-string-at-spec =
-    tie.close
-    (tie.spec add-run-end run-end-requires returns add-if2 sub-if2 returns-2 add-t4 returns-3)
+string-at-spec = tie.close (tie.spec add-run-end run-end-requires returns add-t4 returns-2)

@@ -4,9 +4,9 @@ use mathlib.Core.List.{List}
 use mathlib.Core.Bool.{Bool}
 use Prim.Native.Nat.{ℕ}
 use Rattle.base.specs.Bytes.{letter, digit, all}
-use Rattle.lexeme.specs.Lexemes.{word}
+use Rattle.lexeme.specs.Lexemes.{word, found}
 use Rattle.base.specs.Kinds.{such}
-use Rattle.lexeme.specs.Coded.{coded}
+use Rattle.lexeme.specs.Coded.{coded, kind-of}
 use borrow.Author.Needs.{needs}
 use Rattle.lexer.proofs.word_at.Statement.{statement}
 use Rattle.lexer.proofs.word_at.Tie as tie
@@ -22,18 +22,18 @@ letter-word-requires : tie.Need-letter-word-requires
 letter-word-requires c κs = search needs
 
 returns : tie.Need-returns
-unfolding word such
-returns c = rw (tested letter _ _ (c .before .before .is-all .ensures) (c .before .if1 .taken)) (c .letter-word .ensures)
+unfolding word such coded found
+returns c = rw (tested letter _ _ (c .before .before .is-all .ensures) (c .before .if1 .taken), ← c .before .before .before .before .pre, c .letter-word .ensures (c .before .before .before .before .args .p))
 
 is-all-requires-2 : tie.Need-is-all-requires-2
 is-all-requires-2 c κs = search needs
 
-digit-word-requires : tie.Need-digit-word-requires
-digit-word-requires c κs = search needs
+value-of-requires : tie.Need-value-of-requires
+value-of-requires c κs = search needs
 
 returns-2 : tie.Need-returns-2
-unfolding word such
-returns-2 c = rw (tested letter _ _ (c .before .before .before .before .is-all .ensures) (c .before .before .before .if1 .left), tested digit _ _ (c .before .before .is-all2 .ensures) (c .before .if2 .taken)) (c .digit-word .ensures)
+unfolding word such coded found kind-of
+returns-2 c = rw (tested letter _ _ (c .before .before .before .before .is-all .ensures) (c .before .before .before .if1 .left), tested digit _ _ (c .before .before .is-all2 .ensures) (c .before .if2 .taken), ← c .before .before .before .before .before .before .pre, c .value-of .ensures)
 
 returns-3 : tie.Need-returns-3
 unfolding word such coded
@@ -47,6 +47,6 @@ word-at-spec =
     letter-word-requires
     returns
     is-all-requires-2
-    digit-word-requires
+    value-of-requires
     returns-2
     returns-3)

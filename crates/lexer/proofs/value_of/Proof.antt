@@ -1,23 +1,20 @@
--- `lexer::digit_word` meets its contract: the value from `i` on is the whole value, and it only grows. Assumes nothing.
+-- `lexer::value_of` meets its contract: the value from `i` on is the whole value, and it only grows. Assumes nothing.
 use Prim.Native.Nat.{_+_, _*_, _≤_, _-_}
-use mathlib.Core.Path.{_≡_, refl, sym, _∙_}
+use mathlib.Core.Path.{_≡_, refl, _∙_}
 use native.Mathlib.Omega.{arith}
 use borrow.Author.Needs.{needs}
-use borrow.Author.Tests.{lt-ltb, le-ltb}
 use denote.Ref.{now}
 use lib.ListN.{length, drop}
 use Rattle.base.specs.Bytes.{value}
-use Rattle.lexeme.specs.Lexemes.{digit-word, found}
-use Rattle.lexeme.specs.Coded.{kind-of, coded}
 use Rattle.base.proofs.Words.{value-on, value-out, value-grows}
-use Rattle.lexer.proofs.digit_word.Statement.{statement}
-use Rattle.lexer.proofs.digit_word.Tie as tie
+use Rattle.lexer.proofs.value_of.Statement.{statement}
+use Rattle.lexer.proofs.value_of.Tie as tie
 
 abbrev Inv-loop : tie.InvT-loop
-Inv-loop word p e v₀ i₀ v i = (v ≤ 2147483647) × (value v (drop i word) ≡ value 0 word)
+Inv-loop word v₀ i₀ v i = (v ≤ 4294967295) × (value v (drop i word) ≡ value 0 word)
 
 abbrev μ-loop : tie.MeasureT-loop
-μ-loop word p e value₀ i₀ value i = length word - i
+μ-loop word value₀ i₀ value i = length word - i
 
 loop-holds : tie.Need-loop-holds Inv-loop μ-loop
 loop-holds c = (omega arith, refl)
@@ -34,9 +31,6 @@ worth-requires c κs = search needs
 add-value : tie.Need-add-value Inv-loop μ-loop
 add-value c = omega (arith, c .before .shared-slice-known2 .given (c .before .before .before .loop .i))
 
-cast-if1 : tie.Need-cast-if1 Inv-loop μ-loop
-cast-if1 c = search needs
-
 -- the value after one byte more, with all that is left, is the whole value
 on : (c : tie.After-worth Inv-loop μ-loop)
     → let l = c .before .before .before .loop in
@@ -45,11 +39,10 @@ on : (c : tie.After-worth Inv-loop μ-loop)
 on c = rw (c .worth .ensures) (value-on _ _ _ (c .before .before .loop-test .taken) ∙ c .before .before .before .loop .inv .1)
 
 returns : tie.Need-returns Inv-loop μ-loop
-unfolding digit-word found coded kind-of
 returns c =
     let v = c .before .before .before .before .loop .value * 10 + c .before .worth .result in
     let w = now (c .before .before .before .before .before .before .args .word) in
-    rw (lt-ltb 2147483647 (value 0 w) (omega (arith, value-grows v (drop (c .before .before .before .before .loop .i + 1) w), on (c .before))))
+    omega (arith, value-grows v (drop (c .before .before .before .before .loop .i + 1) w), on (c .before))
 
 add-i : tie.Need-add-i Inv-loop μ-loop
 add-i c = omega arith
@@ -60,17 +53,14 @@ loop-less c = omega arith
 loop-again : tie.Need-loop-again Inv-loop μ-loop
 loop-again c = (omega arith, on (c .before))
 
-cast-t12 : tie.Need-cast-t12 Inv-loop μ-loop
-cast-t12 c = omega arith
+cast-result : tie.Need-cast-result Inv-loop μ-loop
+cast-result c = omega arith
 
 returns-2 : tie.Need-returns-2 Inv-loop μ-loop
-unfolding digit-word found coded kind-of
-returns-2 c =
-    let e : value 0 (now (c .before .before .before .args .word)) ≡ c .before .loop .value = sym (c .before .loop .inv .1) ∙ value-out _ _ _ (c .loop-test .left) in
-    rw (e, le-ltb 2147483647 _ (c .before .loop .inv .0), ← c .before .before .before .pre)
+returns-2 c = omega (arith, c .before .loop .inv .0, c .before .loop .inv .1, value-out (c .before .loop .value) (now (c .before .before .before .args .word)) (c .before .loop .i) (c .loop-test .left))
 
-pub digit-word-spec : {M : Type 1} → statement M
-digit-word-spec =
+pub value-of-spec : {M : Type 1} → statement M
+value-of-spec =
     tie.close
     (tie.spec
     Inv-loop
@@ -80,10 +70,9 @@ digit-word-spec =
     shared-slice-read-worth
     worth-requires
     add-value
-    cast-if1
     returns
     add-i
     loop-less
     loop-again
-    cast-t12
+    cast-result
     returns-2)
