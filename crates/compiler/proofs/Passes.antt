@@ -74,10 +74,6 @@ module _ {text : List ℕ} {l : code.Lexeme} (s : Stands text l) (allow : ℕ) w
       refuses text l allow want-factor TooDeep (l .place)
       (too-deep text l (λ a. step (want-factor a)) (λ a. want-expression (in-bracket a)) (λ a. rw (told-fixed s open-round h)) (λ a. omega arith))
 
-  pub bracket-lost : {why : Refusal} {p : ℕ} → fixed-number (l .kind) ≡ code-of open-round → reply.Refused why p ≡ coded (next text (l .end)) → Barred factor-way text l allow why p
-  unfolding code-of
-  bracket-lost h e = refuses text l allow want-factor _ _ (lost text l (λ a. step (want-factor a)) (going l h (λ z. omega arith)) e)
-
   -- `(`, an expression, `)`: one nesting more than is allowed inside
   module _ {m : code.Lexeme} (h : fixed-number (l .kind) ≡ code-of open-round) (then : Follows text l m) where
     opened : Comes text l m (λ (a : Around factor). depth a + suc allow) (λ a. step (want-factor a)) (λ a. step (want-expression (in-bracket a)))
@@ -99,7 +95,6 @@ module _ {text : List ℕ} {l : code.Lexeme} (s : Stands text l) (allow : ℕ) w
           passes (omega (arith, s .order, then .later, p .later, p .stands .order, met .follows .later)) (met .follows .stands)
           (comes-on to-close (onward text n (λ a. whole-expression e (in-bracket a)) (going n (met .number) (λ z. omega arith)) (met .follows) (got-factor (bracket e)) (λ a. rw (told-fixed (p .stands) close-round (met .number))) (λ a. rw (factor-open (bracket e) a) (omega arith))))
 
-
     pub bracket-unclosed : (w : Walk) (need : ℕ) (e : Sen Name expression) → Passed expression-way text m (w .next) allow e → (why : Refusal) (q : ℕ) → Expects text w (code-of close-round) need (Refused why q) → Barred factor-way text l (suc allow) why q
     unfolding whole-expression on code-of
     bracket-unclosed w need e p why q x =
@@ -116,6 +111,9 @@ module _ {text : List ℕ} {l m : code.Lexeme} (allow : ℕ) (t : Sen Name term)
   pub term-more : {n : code.Lexeme} (o : Is-one muls text m) → Follows text m n → Leads text l n allow term-so-far allow factor-way (multiply t (o .which))
   unfolding depth step got-factor after-term verdict
   term-more o next = crosses (p .stands) (in-multiply t (o .which)) (omega (arith, p .later)) (comes p) (o .told-so) (o .goes) next (λ a. refl) (λ a. muls .such _ _ (o .which)) (λ a. omega arith) (λ f. refl)
+
+  pub term-lost : {why : Refusal} {q : ℕ} → Is-one muls text m → reply.Refused why q ≡ coded (next text (m .end)) → Barred term-so-far text l allow why q
+  term-lost o e = refuses text l allow (term-so-far .start) _ _ (comes-stuck (comes p) (lost text m (after-term t) (o .goes) e))
 
   pub term-whole : muls .test (fixed-number (m .kind)) ≡ false → Passed term-way text l m allow t
   unfolding after-term
@@ -139,6 +137,9 @@ module _ {text : List ℕ} {l m : code.Lexeme} (allow : ℕ) (d : Sen Name expre
   pub expression-more : {n : code.Lexeme} (g : Is-one signs text m) → Follows text m n → Leads text l n allow first-term-way allow term-way (add d (g .which))
   unfolding depth step after-expression whole-term verdict
   expression-more g next = crosses (p .stands) (in-add d (g .which)) (omega (arith, p .later)) (comes p) (g .told-so) (g .goes) next (λ a. refl) (λ a. signs .such _ _ (g .which)) (λ a. omega arith) (λ t. refl)
+
+  pub expression-lost : {why : Refusal} {q : ℕ} → Is-one signs text m → reply.Refused why q ≡ coded (next text (m .end)) → Barred first-term-way text l allow why q
+  expression-lost g e = refuses text l allow want-expression _ _ (comes-stuck (comes p) (lost text m (after-expression d) (g .goes) e))
 
   pub expression-whole : signs .test (fixed-number (m .kind)) ≡ false → Passed expression-way text l m allow d
   unfolding after-expression
@@ -173,6 +174,9 @@ module _ {text : List ℕ} {l m : code.Lexeme} (allow : ℕ) (d : Sen Name expre
   unfolding depth step whole-expression verdict
   compare-leads q next = crosses (p .stands) (in-right d (q .which)) (omega (arith, p .later)) left-side (q .told-so) (q .goes) next (λ a. refl) (λ a. rels .such _ _ (q .which)) (λ a. omega arith) (λ t. refl)
 
+  pub compare-lost : {why : Refusal} {r : ℕ} → Is-one rels text m → reply.Refused why r ≡ coded (next text (m .end)) → Barred comparison-way text l allow why r
+  compare-lost q e = refuses text l allow (λ a. want-expression (in-left a)) _ _ (comes-stuck left-side (lost text m (λ a. whole-expression d (in-left a)) (q .goes) e))
+
   pub no-relation : rels .test (fixed-number (m .kind)) ≡ false → Barred comparison-way text l allow NoProgram (m .place)
   unfolding whole-expression
   no-relation h =
@@ -183,8 +187,7 @@ pub comparison-refused : (text : List ℕ) (l : code.Lexeme) (allow : ℕ) (why 
 unfolding depth
 comparison-refused text l allow why p q = refuses-within text l allow allow want-expression why p in-left (λ a. refl) q
 
--- ---- where what follows a lexeme is no lexeme, nothing is read
+-- ---- a lexeme that goes on, and nothing follows it
 
-pub lost-after : {k : Kind} {X : Type 0} (text : List ℕ) (l m : code.Lexeme) (allow : ℕ) (way : Way k X) {stop : Around k → Lexeme → State} {why : Refusal} {p : ℕ}
-    → Comes text l m (λ (a : Around k). depth a + allow) (λ a. step (way .start a)) stop → (Ends m → ⊥) → reply.Refused why p ≡ coded (next text (m .end)) → Barred way text l allow why p
-lost-after text l m allow way {stop} c g e = refuses text l allow (way .start) _ _ (comes-stuck c (lost text m stop g e))
+pub lost-first : {k : Kind} {X : Type 0} (way : Way k X) (text : List ℕ) (l : code.Lexeme) (allow : ℕ) {why : Refusal} {p : ℕ} → (Ends l → ⊥) → reply.Refused why p ≡ coded (next text (l .end)) → Barred way text l allow why p
+lost-first way text l allow g e = refuses text l allow (way .start) _ _ (lost text l (λ a. step (way .start a)) g e)

@@ -6,8 +6,10 @@ mod operator;
 mod walk;
 
 ghost use mathlib.Core.Path.{_≡_};
+ghost use Prim.Native.Nat.{_≤_};
 ghost use lib.ListN.{length};
 ghost use Rattle.limits.specs.Limits.{Sizes};
+ghost use Rattle.base.specs.Answers as answers;
 ghost use Rattle.compiler.specs.Answers.{reported, Says, Measured, Settles, Written};
 ghost use Rattle.compiler.specs.Compiled.{report, judged, compiled};
 ghost use Rattle.compiler.specs.Tables.{opening};
@@ -65,7 +67,7 @@ const NAMES: usize = Limits::DECLARATIONS * 4;
 
 // A refusal as it is reported.
 fn refused(why: Refusal, place: usize) -> Answer
-    ensures { λ r. ⌜ reported r ≡ report (refused why place) ⌝ }
+    ensures { λ r. ⌜ reported r ≡ report (answers.refused why place) ⌝ }
 {
     Answer::Refused(base::number(why), place)
 }

@@ -1,16 +1,23 @@
--- `compiler::walk::faulted` meets its contract. Assumes nothing.
-use borrow.Author.Tests.{eq-eqb, ne-eqb}
-use Rattle.compiler.specs.Steps.{faulted-walk}
+use borrow.Author.Needs.{needs}
 use Rattle.compiler.proofs.walk.faulted.Statement.{statement}
 use Rattle.compiler.proofs.walk.faulted.Tie as tie
+use Rattle.compiler.proofs.walk.faulted.Reads as reads
+use Rattle.compiler.proofs.walk.faulted.Lts as lts
 
+-- src/walk.rt:114:9
+enum-told : tie.Need-enum-told
+enum-told c = search needs
+
+-- src/walk.rt:114:9
 returns : tie.Need-returns
-unfolding faulted-walk
-returns c = rw (ne-eqb _ 0 (c .if1 .taken))
+returns c = ?
 
+enum-told-2 : tie.Need-enum-told-2
+enum-told-2 c = search needs
+
+-- src/walk.rt:109:1
 returns-2 : tie.Need-returns-2
-unfolding faulted-walk
-returns-2 c = rw (eq-eqb _ 0 (c .if1 .left))
+returns-2 c = ?
 
 pub faulted-spec : {M : Type 1} → statement M
-faulted-spec = tie.close (tie.spec returns returns-2)
+faulted-spec = tie.close (tie.spec enum-told returns enum-told-2 returns-2)
