@@ -19,11 +19,11 @@ use lexeme::fixed;
 // ---- after the first lexeme of a command without a body
 
 // After PRINTI.
-fn print_int(text: &[u8], names: &[usize], table: &mut [i32], w: Walk, allow: usize) -> Read
+fn print_int(allow: usize, text: &[u8], names: &[usize], table: &mut [i32], w: Walk) -> Read
     requires { ⌜ Ready (now text) (now names) w allow ⌝ }
     ensures { λ r. ⌜ Reads-print (now (text .entry)) (now (names .entry)) (now (table .entry)) w allow r (now (names .entry)) (now (table .exit)) ⌝ }
 {
-    let r = expression::expression(text, names, table, w, allow);
+    let r = expression::expression(allow, text, names, table, w);
     let Read::Done(x, g) = r else {
         return r;
     };
@@ -43,12 +43,12 @@ fn printing(line: bool) -> i32
 
 // After PRINTLNS or PRINTS.
 fn print_string(
+    allow: usize,
     text: &[u8],
     names: &[usize],
     table: &mut [i32],
     w: Walk,
     line: bool,
-    allow: usize,
 ) -> Read
     requires { ⌜ Ready (now text) (now names) w allow ⌝ }
     ensures { λ r. ⌜ Reads-string line (now (text .entry)) (now (names .entry)) (now (table .entry)) w allow r (now (names .entry)) (now (table .exit)) ⌝ }
@@ -63,7 +63,7 @@ fn print_string(
 }
 
 // After INT.
-fn declare(text: &[u8], names: &mut [usize], table: &mut [i32], w: Walk, allow: usize) -> Read
+fn declare(allow: usize, text: &[u8], names: &mut [usize], table: &mut [i32], w: Walk) -> Read
     requires { ⌜ Ready (now text) (now names) w allow ⌝ }
     ensures { λ r. ⌜ Reads-declare (now (text .entry)) (now (names .entry)) (now (table .entry)) w allow r (now (names .exit)) (now (table .exit)) ⌝ }
 {
@@ -79,7 +79,7 @@ fn declare(text: &[u8], names: &mut [usize], table: &mut [i32], w: Walk, allow: 
 }
 
 // After READ.
-fn read(text: &[u8], names: &[usize], table: &mut [i32], w: Walk, allow: usize) -> Read
+fn read(allow: usize, text: &[u8], names: &[usize], table: &mut [i32], w: Walk) -> Read
     requires { ⌜ Ready (now text) (now names) w allow ⌝ }
     ensures { λ r. ⌜ Reads-read (now (text .entry)) (now (names .entry)) (now (table .entry)) w allow r (now (names .entry)) (now (table .exit)) ⌝ }
 {
@@ -97,7 +97,7 @@ fn read(text: &[u8], names: &[usize], table: &mut [i32], w: Walk, allow: usize) 
 }
 
 // After the name l. It is looked up first, since it stands left of the Expression's names.
-fn assign(text: &[u8], names: &[usize], table: &mut [i32], w: Walk, l: Lexeme, allow: usize) -> Read
+fn assign(allow: usize, text: &[u8], names: &[usize], table: &mut [i32], w: Walk, l: Lexeme) -> Read
     requires { ⌜ Ready (now text) (now names) w allow ⌝ }
     ensures { λ r. ⌜ Reads-assign l (now (text .entry)) (now (names .entry)) (now (table .entry)) w allow r (now (names .entry)) (now (table .exit)) ⌝ }
 {
@@ -106,7 +106,7 @@ fn assign(text: &[u8], names: &[usize], table: &mut [i32], w: Walk, l: Lexeme, a
     let Read::Done(x, _) = a else {
         return a;
     };
-    let r = expression::expression(text, names, table, x, allow);
+    let r = expression::expression(allow, text, names, table, x);
     let Read::Done(y, g) = r else {
         return r;
     };
@@ -138,7 +138,7 @@ fn ended(table: &mut [i32], w: Walk, again: bool, back: usize) -> Walk
 
 // ---- commands
 
-pub fn command(text: &[u8], names: &mut [usize], table: &mut [i32], w: Walk, allow: usize) -> Read
+pub fn command(allow: usize, text: &[u8], names: &mut [usize], table: &mut [i32], w: Walk) -> Read
     requires { ⌜ Ready (now text) (now names) w allow ⌝ }
     ensures { λ r. ⌜ Reads-command (now (text .entry)) (now (names .entry)) (now (table .entry)) w allow r (now (names .exit)) (now (table .exit)) ⌝ }
 {
@@ -149,7 +149,7 @@ pub fn command(text: &[u8], names: &mut [usize], table: &mut [i32], w: Walk, all
         return a;
     };
     if let Kind::Name = kind {
-        return assign(text, names, table, x, l, allow);
+        return assign(allow, text, names, table, x, l);
     }
     let f = lexeme::fixed_of(kind);
     match f {
@@ -157,45 +157,45 @@ pub fn command(text: &[u8], names: &mut [usize], table: &mut [i32], w: Walk, all
             walk::emitted(table, x, operations::HALT, 1),
             Gives { need: 0 },
         ),
-        fixed::INT => declare(text, names, table, x, allow),
-        fixed::PRINTI => print_int(text, names, table, x, allow),
-        fixed::PRINTLNS => print_string(text, names, table, x, true, allow),
-        fixed::PRINTS => print_string(text, names, table, x, false, allow),
-        fixed::READ => read(text, names, table, x, allow),
+        fixed::INT => declare(allow, text, names, table, x),
+        fixed::PRINTI => print_int(allow, text, names, table, x),
+        fixed::PRINTLNS => print_string(allow, text, names, table, x, true),
+        fixed::PRINTS => print_string(allow, text, names, table, x, false),
+        fixed::READ => read(allow, text, names, table, x),
         fixed::IF | fixed::WHILE | b'{' => {
             if allow == 0 {
                 return Read::Refused(Refusal::TooDeep, l.place);
             }
-            nested(text, names, table, x, f, allow - 1)
+            nested(allow - 1, text, names, table, x, f)
         }
         _ => Read::Refused(Refusal::NoProgram, l.place),
     }
 }
 
 // After IF, WHILE or `{`, with so many nestings allowed inside.
-fn nested(text: &[u8], names: &mut [usize], table: &mut [i32], w: Walk, f: u8, allow: usize) -> Read
+fn nested(allow: usize, text: &[u8], names: &mut [usize], table: &mut [i32], w: Walk, f: u8) -> Read
     requires { ⌜ Ready (now text) (now names) w (suc allow) ⌝ }
     ensures { λ r. ⌜ Reads-nested f (now (text .entry)) (now (names .entry)) (now (table .entry)) w allow r (now (names .exit)) (now (table .exit)) ⌝ }
 {
     if f == b'{' {
-        return block(text, names, table, w, allow);
+        return block(allow, text, names, table, w);
     }
-    guarded(text, names, table, w, f == fixed::WHILE, allow)
+    guarded(allow, text, names, table, w, f == fixed::WHILE)
 }
 
 // After IF, or after WHILE, whose body is done again; with so many nestings allowed inside.
 fn guarded(
+    allow: usize,
     text: &[u8],
     names: &mut [usize],
     table: &mut [i32],
     w: Walk,
     again: bool,
-    allow: usize,
 ) -> Read
     requires { ⌜ Ready (now text) (now names) w (suc allow) ⌝ }
     ensures { λ r. ⌜ Reads-guarded again (now (text .entry)) (now (names .entry)) (now (table .entry)) w allow r (now (names .exit)) (now (table .exit)) ⌝ }
 {
-    let r = expression::condition(text, names, table, w, allow);
+    let r = expression::condition(allow, text, names, table, w);
     let Read::Done(c, g) = r else {
         return r;
     };
@@ -203,7 +203,7 @@ fn guarded(
     let Read::Done(x, _) = s else {
         return s;
     };
-    let t = command(text, names, table, walk::skipped(x), allow);
+    let t = command(allow, text, names, table, walk::skipped(x));
     let Read::Done(y, h) = t else {
         return t;
     };
@@ -218,11 +218,11 @@ fn guarded(
 }
 
 // After `{`, with so many nestings allowed inside.
-fn block(text: &[u8], names: &mut [usize], table: &mut [i32], w: Walk, allow: usize) -> Read
+fn block(allow: usize, text: &[u8], names: &mut [usize], table: &mut [i32], w: Walk) -> Read
     requires { ⌜ Ready (now text) (now names) w (suc allow) ⌝ }
     ensures { λ r. ⌜ Reads-block (now (text .entry)) (now (names .entry)) (now (table .entry)) w allow r (now (names .exit)) (now (table .exit)) ⌝ }
 {
-    let first = command(text, names, table, naming::opened(w), allow);
+    let first = command(allow, text, names, table, naming::opened(w));
     let Read::Done(x, g) = first else {
         return first;
     };
@@ -232,7 +232,7 @@ fn block(text: &[u8], names: &mut [usize], table: &mut [i32], w: Walk, allow: us
         if walk::fixed_ahead(done) == b'}' {
             return walk::advance(text, naming::closed(w, done), need);
         }
-        let r = command(text, names, table, done, allow);
+        let r = command(allow, text, names, table, done);
         let Read::Done(y, h) = r else {
             return r;
         };

@@ -14,7 +14,7 @@ use instruction::operations;
 use lexeme::Kind;
 use lexeme::fixed;
 
-fn factor(text: &[u8], names: &[usize], table: &mut [i32], w: Walk, allow: usize) -> Read
+fn factor(allow: usize, text: &[u8], names: &[usize], table: &mut [i32], w: Walk) -> Read
     requires { ⌜ Ready (now text) (now names) w allow ⌝ }
     ensures { λ r. ⌜ Reads-factor (now (text .entry)) (now (names .entry)) (now (table .entry)) w allow r (now (names .entry)) (now (table .exit)) ⌝ }
 {
@@ -38,13 +38,13 @@ fn factor(text: &[u8], names: &[usize], table: &mut [i32], w: Walk, allow: usize
             if allow == 0 {
                 return Read::Refused(Refusal::TooDeep, l.place);
             }
-            bracket(text, names, table, w, allow - 1)
+            bracket(allow - 1, text, names, table, w)
         }
     }
 }
 
 // `(`, an Expression, `)`, with so many nestings allowed inside.
-fn bracket(text: &[u8], names: &[usize], table: &mut [i32], w: Walk, allow: usize) -> Read
+fn bracket(allow: usize, text: &[u8], names: &[usize], table: &mut [i32], w: Walk) -> Read
     requires { ⌜ Ready (now text) (now names) w (suc allow) ⌝ }
     requires { ⌜ fixed-number (w .next .kind) ≡ 40 ⌝ }
     ensures { λ r. ⌜ Reads-factor (now (text .entry)) (now (names .entry)) (now (table .entry)) w (suc allow) r (now (names .entry)) (now (table .exit)) ⌝ }
@@ -53,18 +53,18 @@ fn bracket(text: &[u8], names: &[usize], table: &mut [i32], w: Walk, allow: usiz
     let Read::Done(x, _) = a else {
         return a;
     };
-    let r = expression(text, names, table, x, allow);
+    let r = expression(allow, text, names, table, x);
     let Read::Done(y, g) = r else {
         return r;
     };
     walk::expect(text, y, b')', g.need)
 }
 
-fn term(text: &[u8], names: &[usize], table: &mut [i32], w: Walk, allow: usize) -> Read
+fn term(allow: usize, text: &[u8], names: &[usize], table: &mut [i32], w: Walk) -> Read
     requires { ⌜ Ready (now text) (now names) w allow ⌝ }
     ensures { λ r. ⌜ Reads-term (now (text .entry)) (now (names .entry)) (now (table .entry)) w allow r (now (names .entry)) (now (table .exit)) ⌝ }
 {
-    let first = factor(text, names, table, w, allow);
+    let first = factor(allow, text, names, table, w);
     let Read::Done(x, g) = first else {
         return first;
     };
@@ -79,7 +79,7 @@ fn term(text: &[u8], names: &[usize], table: &mut [i32], w: Walk, allow: usize) 
         let Read::Done(y, _) = a else {
             return a;
         };
-        let r = factor(text, names, table, y, allow);
+        let r = factor(allow, text, names, table, y);
         let Read::Done(z, h) = r else {
             return r;
         };
@@ -89,19 +89,19 @@ fn term(text: &[u8], names: &[usize], table: &mut [i32], w: Walk, allow: usize) 
 }
 
 // One sign or none, and a Term.
-fn first_term(text: &[u8], names: &[usize], table: &mut [i32], w: Walk, allow: usize) -> Read
+fn first_term(allow: usize, text: &[u8], names: &[usize], table: &mut [i32], w: Walk) -> Read
     requires { ⌜ Ready (now text) (now names) w allow ⌝ }
     ensures { λ r. ⌜ Reads-first-term (now (text .entry)) (now (names .entry)) (now (table .entry)) w allow r (now (names .entry)) (now (table .exit)) ⌝ }
 {
     let f = walk::fixed_ahead(w);
     if !operator::is_sign(f) {
-        return term(text, names, table, w, allow);
+        return term(allow, text, names, table, w);
     }
     let a = walk::advance(text, w, 0);
     let Read::Done(x, _) = a else {
         return a;
     };
-    let r = term(text, names, table, x, allow);
+    let r = term(allow, text, names, table, x);
     let Read::Done(y, g) = r else {
         return r;
     };
@@ -111,11 +111,11 @@ fn first_term(text: &[u8], names: &[usize], table: &mut [i32], w: Walk, allow: u
     Read::Done(y, g)
 }
 
-pub fn expression(text: &[u8], names: &[usize], table: &mut [i32], w: Walk, allow: usize) -> Read
+pub fn expression(allow: usize, text: &[u8], names: &[usize], table: &mut [i32], w: Walk) -> Read
     requires { ⌜ Ready (now text) (now names) w allow ⌝ }
     ensures { λ r. ⌜ Reads-expression (now (text .entry)) (now (names .entry)) (now (table .entry)) w allow r (now (names .entry)) (now (table .exit)) ⌝ }
 {
-    let first = first_term(text, names, table, w, allow);
+    let first = first_term(allow, text, names, table, w);
     let Read::Done(x, g) = first else {
         return first;
     };
@@ -130,7 +130,7 @@ pub fn expression(text: &[u8], names: &[usize], table: &mut [i32], w: Walk, allo
         let Read::Done(y, _) = a else {
             return a;
         };
-        let r = term(text, names, table, y, allow);
+        let r = term(allow, text, names, table, y);
         let Read::Done(z, h) = r else {
             return r;
         };
@@ -139,12 +139,12 @@ pub fn expression(text: &[u8], names: &[usize], table: &mut [i32], w: Walk, allo
     }
 }
 
-pub fn condition(text: &[u8], names: &[usize], table: &mut [i32], w: Walk, allow: usize) -> Read
+pub fn condition(allow: usize, text: &[u8], names: &[usize], table: &mut [i32], w: Walk) -> Read
     requires { ⌜ Ready (now text) (now names) w allow ⌝ }
     ensures { λ r. ⌜ Reads-condition (now (text .entry)) (now (names .entry)) (now (table .entry)) w allow r (now (names .entry)) (now (table .exit)) ⌝ }
 {
     if walk::fixed_ahead(w) != fixed::NOT {
-        return comparison(text, names, table, w, allow);
+        return comparison(allow, text, names, table, w);
     }
     if allow == 0 {
         let l = w.next;
@@ -154,7 +154,7 @@ pub fn condition(text: &[u8], names: &[usize], table: &mut [i32], w: Walk, allow
     let Read::Done(x, _) = a else {
         return a;
     };
-    let r = condition(text, names, table, x, allow - 1);
+    let r = condition(allow - 1, text, names, table, x);
     let Read::Done(y, g) = r else {
         return r;
     };
@@ -162,11 +162,11 @@ pub fn condition(text: &[u8], names: &[usize], table: &mut [i32], w: Walk, allow
 }
 
 // An Expression, one relation, an Expression.
-fn comparison(text: &[u8], names: &[usize], table: &mut [i32], w: Walk, allow: usize) -> Read
+fn comparison(allow: usize, text: &[u8], names: &[usize], table: &mut [i32], w: Walk) -> Read
     requires { ⌜ Ready (now text) (now names) w allow ⌝ }
     ensures { λ r. ⌜ Reads-comparison (now (text .entry)) (now (names .entry)) (now (table .entry)) w allow r (now (names .entry)) (now (table .exit)) ⌝ }
 {
-    let left = expression(text, names, table, w, allow);
+    let left = expression(allow, text, names, table, w);
     let Read::Done(x, g) = left else {
         return left;
     };
@@ -179,7 +179,7 @@ fn comparison(text: &[u8], names: &[usize], table: &mut [i32], w: Walk, allow: u
     let Read::Done(y, _) = a else {
         return a;
     };
-    let right = expression(text, names, table, y, allow);
+    let right = expression(allow, text, names, table, y);
     let Read::Done(z, h) = right else {
         return right;
     };

@@ -51,7 +51,7 @@ fn program(text: &[u8], names: &mut [usize], table: &mut [i32], code: usize) -> 
     let Read::Done(x, _) = b else {
         return b;
     };
-    let r = command::command(text, names, table, x, Limits::NESTING);
+    let r = command::command(Limits::NESTING, text, names, table, x);
     let Read::Done(y, _) = r else {
         return r;
     };
