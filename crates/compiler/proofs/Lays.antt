@@ -200,9 +200,9 @@ module _ {text names names′ : List ℕ} {table table′ : List ℤ} {w v : Wal
   unfolding resolve size need code spare
   lays-single = lays-same single refl (le-refl 1) (λ y. refl) (λ y. refl) (λ a y. refl)
 
-  pub lays-signed-plus : {x : Sen Name term} (m : Lexeme) → w .next .place ≤ m .place → Lays text names table (moved-to w m) x names′ table′ v g → Lays text names table w (signed plus x) names′ table′ v g
+  pub lays-signed-plus : {x : Sen Name term} (m : Lexeme) → w .next .place < m .place → Lays text names table (moved-to w m) x names′ table′ v g → Lays text names table w (signed plus x) names′ table′ v g
   unfolding resolve size need code spare
-  lays-signed-plus m h p = lead m h (lays-same (signed plus) refl (le-refl 2) (λ y. add-zero (size y)) (λ y. refl) (λ a y. append-nil (code a y)) p)
+  lays-signed-plus m h p = lead m (omega arith) (lays-same (signed plus) refl (le-refl 2) (λ y. add-zero (size y)) (λ y. refl) (λ a y. append-nil (code a y)) p)
 
   pub lays-signed-minus : {x : Sen Name term} (m : Lexeme) → w .next .place < m .place → Lays text names table (moved-to w m) x names′ table′ v g → Lays text names table w (signed minus x) names′ (put table′ (v .code) (pos 14 ∷ pos 0 ∷ [])) (one-more v) g
   unfolding resolve size need code pair spare
