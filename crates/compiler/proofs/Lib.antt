@@ -1,6 +1,10 @@
+pub mod Commands
 pub mod Emits
 pub mod Filled
+pub mod Lays
 pub mod Looked
+pub mod Names
 pub mod Passes
 pub mod Reading
+pub mod Replies
 pub mod Stores

@@ -1,0 +1,156 @@
+-- What a reader's answer says, taken apart, and handed on by the reader that called it. Assumes nothing.
+use mathlib.Core.Path.{_≡_, refl, sym, ap, subst, _∙_}
+use mathlib.Core.List.{List, [], _∷_}
+use mathlib.Core.Bool.{Bool, true}
+use Prim.Native.Nat.{ℕ, _+_, _≤_, _<_, max}
+use native.Mathlib.Nat.{le-refl}
+use native.Mathlib.Omega.{arith}
+use lib.IntN.{ℤ, pos}
+use lib.ListN.{length}
+use Rattle.base.specs.declared.Refusal.{Refusal}
+use Rattle.lexeme.specs.Lexemes.{Name, Lexeme, Fixed, next}
+use Rattle.lexeme.specs.Coded.{code-of, coded, fixed-number, Ends, Stands}
+use Rattle.lexeme.specs.declared.Lexeme as code
+use Rattle.lexeme.specs.declared.Found.the-variants as reply
+use Rattle.sentence.specs.Sentences.{Kind, Sen, multiply, add, compare}
+use Rattle.sentence.specs.Reader.{Around, State}
+use Rattle.sentence.proofs.Operators.{number-of}
+use Rattle.compiler.specs.declared.walk.Walk.{Walk}
+use Rattle.compiler.specs.declared.walk.Gives.{Gives}
+use Rattle.compiler.specs.declared.walk.Read.{Read}
+use Rattle.compiler.specs.declared.walk.Read.the-variants.{Done, Refused}
+use Rattle.compiler.specs.Steps.{moved-to, one-more, operation-number, Follows, Past, Advances, Expects}
+use Rattle.compiler.specs.Tables.{put}
+use Rattle.compiler.specs.Walks.{Lays, Ready, Reads, Refuses}
+use Rattle.compiler.proofs.Emits.{length-put}
+use Rattle.compiler.proofs.Looked.{Sort, signs, muls, rels, Is-one, is-one, going}
+use Rattle.compiler.proofs.Reading.{Way, Passed, Barred, Leads, Met, met}
+use Rattle.compiler.proofs.Passes.{factor-way, term-so-far, term-way, first-term-way, expression-way, comparison-way, term-more, term-lost, expression-more, expression-lost, compare-leads, compare-lost}
+use Rattle.compiler.proofs.Lays.{lays-multiply, lays-add, lays-compare, ready-moved, ready-after, counts-fit}
+
+-- ---- answers taken apart
+
+-- a construct was read and written by the walk from w to v
+pub record Got {k j : Kind} (way : Way k (Sen Name j)) (text names : List ℕ) (table : List ℤ) (w : Walk) (allow : ℕ) (names′ : List ℕ) (table′ : List ℤ) (v : Walk) (g : Gives) : Type 0 where
+  pub what : Sen Name j
+  pub passed : Passed way text (w .next) (v .next) allow what
+  pub laid : Lays text names table w what names′ table′ v g
+
+module _ {k : Kind} (way : Way k (Sen Name k)) {text names names′ : List ℕ} {table table′ : List ℤ} {w : Walk} {allow : ℕ} {r : Read} where
+  pub got : {v : Walk} {g : Gives} → r ≡ Done v g → Reads k (way .start) (way .stop) text names table w allow r names′ table′ → Got way text names table w allow names′ table′ v g
+  unfolding Reads
+  got e q = let p = rw e at q in record { what = p .0; passed = p .1; laid = p .2 }
+
+  pub done : {v : Walk} {g : Gives} → r ≡ Done v g → Got way text names table w allow names′ table′ v g → Reads k (way .start) (way .stop) text names table w allow r names′ table′
+  unfolding Reads
+  done e g = rw e (g .what, g .passed, g .laid)
+
+  pub barred : {why : Refusal} {p : ℕ} → r ≡ Refused why p → Reads k (way .start) (way .stop) text names table w allow r names′ table′ → Barred way text (w .next) allow why p
+  unfolding Reads
+  barred e q = rw e at q
+
+  pub stopped : {why : Refusal} {p : ℕ} → r ≡ Refused why p → Barred way text (w .next) allow why p → Reads k (way .start) (way .stop) text names table w allow r names′ table′
+  unfolding Reads
+  stopped e q = rw e q
+
+-- the whole answer is the caller's
+module _ {k k′ : Kind} {way : Way k (Sen Name k)} {way′ : Way k′ (Sen Name k′)} {makes : Sen Name k′ → Sen Name k} {text names names′ : List ℕ} {table table′ : List ℤ} {w u : Walk} {allow allow′ : ℕ} where
+  pub handed-on : Leads text (w .next) (u .next) allow way allow′ way′ makes → ((x : Sen Name k′) (v : Walk) (g : Gives) → Lays text names table u x names′ table′ v g → Lays text names table w (makes x) names′ table′ v g) →
+      (r : Read) → Reads k′ (way′ .start) (way′ .stop) text names table u allow′ r names′ table′ → Reads k (way .start) (way .stop) text names table w allow r names′ table′
+  unfolding Reads
+  handed-on l f (Done v g) q = (makes (q .0), l .passes (q .0) (q .1), f (q .0) v g (q .2))
+  handed-on l f (Refused why p) q = l .refuses why p q
+
+-- ---- advances taken apart
+
+module _ {text : List ℕ} {w : Walk} {need : ℕ} {r : Read} where
+  pub past : {v : Walk} {g : Gives} → r ≡ Done v g → Advances text w need r → Past text w v
+  unfolding Advances
+  past e a = let b : Advances text w need (Done _ _) = rw e at a in b .0
+
+  pub gives-need : {v : Walk} {g : Gives} → r ≡ Done v g → Advances text w need r → g ≡ record { need = need }
+  unfolding Advances
+  gives-need e a = let b : Advances text w need (Done _ _) = rw e at a in b .1
+
+  pub unread : {why : Refusal} {p : ℕ} → r ≡ Refused why p → Advances text w need r → reply.Refused why p ≡ coded (next text (w .next .end))
+  unfolding Advances
+  unread e a = rw e at a
+
+-- ---- what the next reader may be called with
+
+module _ {text names : List ℕ} {w : Walk} {allow : ℕ} (a : Ready text names w allow) where
+  pub code-fits : w .code < 10000000
+  code-fits = omega (arith, a .code, a .stands .order, a .stands .within, a .short)
+
+  -- after a lexeme, with no more nestings allowed
+  pub ready-past : {v : Walk} (fewer : ℕ) → fewer ≤ allow → Past text w v → Ready text names v fewer
+  ready-past {v} fewer f p = subst (λ (u : Walk). Ready text names u fewer) (sym (p .moved)) (ready-moved a (v .next) fewer f (omega (arith, a .stands .order, p .follows .later)) (p .follows .stands))
+
+  module _ {k j : Kind} {way : Way k (Sen Name j)} {inside : ℕ} {names′ : List ℕ} {table table′ : List ℤ} {v : Walk} {g : Gives} (got-it : Got way text names table w inside names′ table′ v g) where
+    pub ready-got : Ready text names′ v allow
+    ready-got = ready-after a (got-it .laid) (got-it .passed .stands)
+
+    pub counts-got : (v .code < 10000000) × (g .need < 10000000)
+    counts-got = counts-fit a (got-it .laid) (got-it .passed .stands)
+
+-- ---- two sides and the operator or relation between them
+
+pub record Joins {A : Type 0} {k k′ k″ : Kind} (sort : Sort A) (way : Way k (Sen Name k)) (way′ : Way k′ (Sen Name k′)) (out : Way k″ (Sen Name k″)) (make : Sen Name k → A → Sen Name k′ → Sen Name k″) : Type 0 where
+  pub more : {text : List ℕ} {l m n : code.Lexeme} (allow : ℕ) (x : Sen Name k) → Passed way text l m allow x → (o : Is-one sort text m) → Follows text m n → Leads text l n allow out allow way′ (make x (o .which))
+  pub lost : {text : List ℕ} {l m : code.Lexeme} {why : Refusal} {p : ℕ} (allow : ℕ) (x : Sen Name k) → Passed way text l m allow x → Is-one sort text m → reply.Refused why p ≡ coded (next text (m .end)) → Barred out text l allow why p
+  pub lays : {text names names₁ names₂ : List ℕ} {table table₁ table₂ : List ℤ} {w left v : Walk} {g h : Gives} {x : Sen Name k} {y : Sen Name k′} (o : A) (m : code.Lexeme) → left .next .place < m .place → Lays text names table w x names₁ table₁ left g → Lays text names₁ table₁ (moved-to left m) y names₂ table₂ v h →
+      Lays text names table w (make x o y) names₂ (put table₂ (v .code) (operation-number (number-of (sort .lexeme o)) ∷ pos 0 ∷ [])) (one-more v) (record { need = max (g .need) (1 + h .need) })
+
+pub term-joins : Joins muls term-so-far factor-way term-so-far multiply
+term-joins = record { more = term-more; lost = term-lost; lays = lays-multiply }
+
+pub expression-joins : Joins signs first-term-way term-way first-term-way add
+expression-joins = record { more = expression-more; lost = expression-lost; lays = lays-add }
+
+pub comparison-joins : Joins rels expression-way expression-way comparison-way compare
+comparison-joins = record { more = compare-leads; lost = compare-lost; lays = lays-compare }
+
+-- the left side was read, and an operator stands next, with the number f
+module _ {A : Type 0} {k k′ k″ : Kind} {sort : Sort A} {way : Way k (Sen Name k)} {way′ : Way k′ (Sen Name k′)} {out : Way k″ (Sen Name k″)} {make : Sen Name k → A → Sen Name k′ → Sen Name k″} (j : Joins sort way way′ out make)
+    {text names₀ names : List ℕ} {table table₁ : List ℤ} {w left : Walk} {allow : ℕ} {g : Gives} (so : Got way text names₀ table w allow names table₁ left g) {f : ℕ} (number : f ≡ fixed-number (left .next .kind)) (test : sort .test f ≡ true) where
+  operator : Is-one sort text (left .next)
+  operator = is-one sort (so .passed .stands) (ap (sort .test) (sym number) ∙ test)
+
+  -- what follows it is no lexeme
+  pub right-lost : {why : Refusal} {p : ℕ} → reply.Refused why p ≡ coded (next text (left .next .end)) → Barred out text (w .next) allow why p
+  right-lost e = j .lost allow (so .what) (so .passed) operator e
+
+  module _ {y : Walk} (passed : Past text left y) where
+    right-leads : Leads text (w .next) (y .next) allow out allow way′ (make (so .what) (operator .which))
+    right-leads = j .more allow (so .what) (so .passed) operator (passed .follows)
+
+    pub right-refused : {why : Refusal} {p : ℕ} → Barred way′ text (y .next) allow why p → Barred out text (w .next) allow why p
+    right-refused q = right-leads .refuses _ _ q
+
+    module _ {table₂ : List ℤ} {z : Walk} {h : Gives} (right : Got way′ text names table₁ y allow names table₂ z h) where
+      pub right-later : (left .next .place < z .next .place) × Stands text (z .next)
+      right-later = (omega (arith, so .passed .stands .order, passed .follows .later, right .passed .later), right .passed .stands)
+
+      pub right-joined : Got out text names₀ table w allow names (put table₂ (z .code) (operation-number f ∷ pos 0 ∷ [])) (one-more z) (record { need = max (g .need) (1 + h .need) })
+      unfolding one-more
+      right-joined = record {
+        what = make (so .what) (operator .which) (right .what);
+        passed = right-leads .passes (right .what) (right .passed);
+        laid =
+            subst (λ (n : ℕ). Lays text names₀ table w (make (so .what) (operator .which) (right .what)) names (put table₂ (z .code) (operation-number n ∷ pos 0 ∷ [])) (one-more z) (record { need = max (g .need) (1 + h .need) })) (sym (number ∙ operator .number))
+            (j .lays (operator .which) (y .next) (omega (arith, so .passed .stands .some (operator .goes), passed .follows .later)) (so .laid) (subst (λ (u : Walk). Lays text names table₁ u (right .what) names table₂ z h) (passed .moved) (right .laid)));
+      }
+
+-- ---- the loop of a Term or an Expression
+
+-- the rounds so far lead to the walk `left`, whatever was read before the loop
+pub record Rounds {k : Kind} (way : Way k (Sen Name k)) (text names : List ℕ) (table₀ : List ℤ) (allow : ℕ) (left₀ : Walk) (need₀ : ℕ) (table : List ℤ) (left : Walk) (need : ℕ) : Type 0 where
+  pub count : length table ≡ length table₀
+  pub on : (before : List ℤ) (w : Walk) → Got way text names before w allow names table₀ left₀ (record { need = need₀ }) → Got way text names before w allow names table left (record { need = need })
+
+module _ {A : Type 0} {k k′ : Kind} {sort : Sort A} {way : Way k (Sen Name k)} {way′ : Way k′ (Sen Name k′)} {make : Sen Name k → A → Sen Name k′ → Sen Name k} (j : Joins sort way way′ way make)
+    {text names : List ℕ} {table₀ table₁ : List ℤ} {allow need₀ need : ℕ} {left₀ left : Walk} (so-far : Rounds way text names table₀ allow left₀ need₀ table₁ left need) {f : ℕ} (number : f ≡ fixed-number (left .next .kind)) (test : sort .test f ≡ true) where
+  -- one round more
+  pub round-on : {y : Walk} → Past text left y → {table₂ : List ℤ} {z : Walk} {h : Gives} → Got way′ text names table₁ y allow names table₂ z h → length table₂ ≡ length table₁ →
+      Rounds way text names table₀ allow left₀ need₀ (put table₂ (z .code) (operation-number f ∷ pos 0 ∷ [])) (one-more z) (max need (1 + h .need))
+  round-on passed right e = record { count = length-put _ _ _ ∙ e ∙ so-far .count; on = λ before w g. right-joined j (so-far .on before w g) number test passed right }
