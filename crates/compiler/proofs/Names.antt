@@ -168,7 +168,7 @@ module _ (names names′ : List ℕ) (w r : Walk) (fine : Fine names w) (p : Dec
       by (declared.Is t) is Nothing = unfold declared-walk in-scope standing pass name-of in
           gives (record { what = w .scope .«next_cell»; scope = scope-in text names′ t }) (declared-given names (w .scope) (w .next .place) (w .next .end) (fine .sound) t names′ is text (name-of text (w .next)) refl) refl refl
       by declared.TooMany is Nothing = unfold declared-walk faulted-walk first-fault standing pass name-of in
-          refuses TooManyDeclared (w .next .place) (declared-too-many names (w .scope) (w .next .place) (w .next .end) (fine .sound) names′ is text (name-of text (w .next))) refl
+          refuses TooManyDeclared (w .next .place) (declared-too-many names (w .scope) (w .next .place) (w .next .end) names′ is text (name-of text (w .next))) refl
       by (declared.Is t) is (Is why q) = unfold declared-walk in-scope standing pass in refuses why q refl refl
       by declared.TooMany is (Is why q) = unfold declared-walk faulted-walk first-fault standing pass in refuses why q refl refl
 
@@ -209,7 +209,7 @@ module _ {text names names′ : List ℕ} {table table′ : List ℤ} {w v : Wal
       let more : w .scope .declared ≤ v .scope .declared = unfold opened-scope in p .small .declared in
       lays (rw (closed-scope-in names names′ (w .scope) (v .scope) text kept)
       (leads-one block (λ y q. record { code = q .code; need = q .need; numbers = q .numbers }) (scoped (resolve (length names / 4) x)) (stand text names w)
-      (leads-scoped (resolve (length names / 4) x) (scope-in text names (w .scope)) (scope-in text names′ (v .scope)) (w .fault) (v .fault) (rw (opened-scope-in text names (w .scope) (f .sound) few) at (leads p)))))
+      (leads-scoped (resolve (length names / 4) x) (scope-in text names (w .scope)) (scope-in text names′ (v .scope)) (w .fault) (v .fault) (rw (opened-scope-in names (w .scope) (f .sound) few text) at (leads p)))))
       (unfold closed-scope in omega (arith, p .small))
       (record { sound = closed-sound names names′ (w .scope) (v .scope) (f .sound) (p .fine .sound) more; low = closed-low names names′ (w .scope) (v .scope) (f .low) kept more })
       kept
@@ -230,6 +230,6 @@ module _ {text names : List ℕ} {w : Walk} {allow : ℕ} where
         stands = r .stands;
         short = r .short;
         code = r .code;
-        fine = record { sound = opened-sound text names (w .scope) (r .fine .sound) few; low = opened-low text names (w .scope) (r .fine .sound) few (r .fine .low) };
+        fine = record { sound = opened-sound names (w .scope) (r .fine .sound) few; low = opened-low names (w .scope) (r .fine .sound) few (r .fine .low) };
         allowed = unfold opened-scope counted in omega (arith, r .allowed);
       }

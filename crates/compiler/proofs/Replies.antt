@@ -45,13 +45,14 @@ module _ {k : Kind} (way : Way k (Sen Name k)) {text names names′ : List ℕ} 
   unfolding Reads
   done e g = rw e (g .what, g .passed, g .laid)
 
-  pub barred : {why : Refusal} {p : ℕ} → r ≡ Refused why p → Reads k (way .start) (way .stop) text names table w allow r names′ table′ → Barred way text (w .next) allow why p
+module _ {k : Kind} (way : Way k (Sen Name k)) (text names : List ℕ) (table : List ℤ) (w : Walk) (allow : ℕ) (names′ : List ℕ) (table′ : List ℤ) {r : Read} {why : Refusal} {p : ℕ} (is : r ≡ Refused why p) where
+  pub barred : Reads k (way .start) (way .stop) text names table w allow r names′ table′ → Barred way text (w .next) allow why p
   unfolding Reads
-  barred e q = rw e at q
+  barred q = rw is at q
 
-  pub stopped : {why : Refusal} {p : ℕ} → r ≡ Refused why p → Barred way text (w .next) allow why p → Reads k (way .start) (way .stop) text names table w allow r names′ table′
+  pub stopped : Barred way text (w .next) allow why p → Reads k (way .start) (way .stop) text names table w allow r names′ table′
   unfolding Reads
-  stopped e q = rw e q
+  stopped q = rw is q
 
 -- the whole answer is the caller's
 module _ {k k′ : Kind} {way : Way k (Sen Name k)} {way′ : Way k′ (Sen Name k′)} {makes : Sen Name k′ → Sen Name k} {text names names′ : List ℕ} {table table′ : List ℤ} {w u : Walk} {allow allow′ : ℕ} where
@@ -63,18 +64,18 @@ module _ {k k′ : Kind} {way : Way k (Sen Name k)} {way′ : Way k′ (Sen Name
 
 -- ---- advances taken apart
 
-module _ {text : List ℕ} {w : Walk} {need : ℕ} {r : Read} where
-  pub past : {v : Walk} {g : Gives} → r ≡ Done v g → Advances text w need r → Past text w v
+module _ (text : List ℕ) (w : Walk) (need : ℕ) {r : Read} (a : Advances text w need r) where
+  pub past : {v : Walk} {g : Gives} → r ≡ Done v g → Past text w v
   unfolding Advances
-  past e a = let b : Advances text w need (Done _ _) = rw e at a in b .0
+  past {v} {g} e = let b : Advances text w need (Done v g) = rw e at a in b .0
 
-  pub gives-need : {v : Walk} {g : Gives} → r ≡ Done v g → Advances text w need r → g ≡ record { need = need }
+  pub gives-need : {v : Walk} {g : Gives} → r ≡ Done v g → g ≡ record { need = need }
   unfolding Advances
-  gives-need e a = let b : Advances text w need (Done _ _) = rw e at a in b .1
+  gives-need {v} {g} e = let b : Advances text w need (Done v g) = rw e at a in b .1
 
-  pub unread : {why : Refusal} {p : ℕ} → r ≡ Refused why p → Advances text w need r → reply.Refused why p ≡ coded (next text (w .next .end))
+  pub unread : {why : Refusal} {p : ℕ} → r ≡ Refused why p → reply.Refused why p ≡ coded (next text (w .next .end))
   unfolding Advances
-  unread e a = rw e at a
+  unread {why} {p} e = let b : Advances text w need (Refused why p) = rw e at a in b
 
 -- ---- what the next reader may be called with
 
@@ -102,13 +103,13 @@ pub record Joins {A : Type 0} {k k′ k″ : Kind} (sort : Sort A) (way : Way k 
       Lays text names table w (make x o y) names₂ (put table₂ (v .code) (operation-number (number-of (sort .lexeme o)) ∷ pos 0 ∷ [])) (one-more v) (record { need = max (g .need) (1 + h .need) })
 
 pub term-joins : Joins muls term-so-far factor-way term-so-far multiply
-term-joins = record { more = term-more; lost = term-lost; lays = lays-multiply }
+term-joins = record { more = λ allow x p o. term-more allow x p o; lost = λ allow x p o. term-lost allow x p o; lays = lays-multiply }
 
 pub expression-joins : Joins signs first-term-way term-way first-term-way add
-expression-joins = record { more = expression-more; lost = expression-lost; lays = lays-add }
+expression-joins = record { more = λ allow x p o. expression-more allow x p o; lost = λ allow x p o. expression-lost allow x p o; lays = lays-add }
 
 pub comparison-joins : Joins rels expression-way expression-way comparison-way compare
-comparison-joins = record { more = compare-leads; lost = compare-lost; lays = lays-compare }
+comparison-joins = record { more = λ allow x p o. compare-leads allow x p o; lost = λ allow x p o. compare-lost allow x p o; lays = lays-compare }
 
 -- the left side was read, and an operator stands next, with the number f
 module _ {A : Type 0} {k k′ k″ : Kind} {sort : Sort A} {way : Way k (Sen Name k)} {way′ : Way k′ (Sen Name k′)} {out : Way k″ (Sen Name k″)} {make : Sen Name k → A → Sen Name k′ → Sen Name k″} (j : Joins sort way way′ out make)
@@ -124,8 +125,8 @@ module _ {A : Type 0} {k k′ k″ : Kind} {sort : Sort A} {way : Way k (Sen Nam
     right-leads : Leads text (w .next) (y .next) allow out allow way′ (make (so .what) (operator .which))
     right-leads = j .more allow (so .what) (so .passed) operator (passed .follows)
 
-    pub right-refused : {why : Refusal} {p : ℕ} → Barred way′ text (y .next) allow why p → Barred out text (w .next) allow why p
-    right-refused q = right-leads .refuses _ _ q
+    pub right-refused : (why : Refusal) (p : ℕ) → Barred way′ text (y .next) allow why p → Barred out text (w .next) allow why p
+    right-refused why p q = right-leads .refuses why p q
 
     module _ {table₂ : List ℤ} {z : Walk} {h : Gives} (right : Got way′ text names table₁ y allow names table₂ z h) where
       pub right-later : (left .next .place < z .next .place) × Stands text (z .next)
