@@ -1,29 +1,31 @@
+-- `compiler::command::ended` meets its contract. Assumes nothing.
+use native.Mathlib.Omega.{arith}
+use mir.Syntax.{w32}
+use mir.Facts.{toZ-ofZ}
+use lib.IntN.{pos}
+use Rattle.compiler.proofs.Stores.{count-fits}
+use mathlib.Core.Path.{refl}
+use Rattle.compiler.specs.Steps.{ended-walk, ended-table}
 use borrow.Author.Needs.{needs}
 use Rattle.compiler.proofs.command.ended.Statement.{statement}
 use Rattle.compiler.proofs.command.ended.Tie as tie
-use Rattle.compiler.proofs.command.ended.Reads as reads
-use Rattle.compiler.proofs.command.ended.Lts as lts
-use Rattle.compiler.proofs.walk.emitted.Reads as emitted-reads
 
--- src/command.rt:134:58
 cast-emitted : tie.Need-cast-emitted
 cast-emitted c = search needs
 
--- src/command.rt:134:9
 emitted-requires : tie.Need-emitted-requires
 emitted-requires c κs = search needs
 
--- src/command.rt:134:9
 same-length : tie.Need-same-length
 same-length c = search needs
 
--- src/command.rt:134:9
 returns : tie.Need-returns
-returns c = ?
+unfolding ended-walk ended-table
+returns c = rw (c .before .before .before .if1 .taken) (c .before .emitted .ensures .0, rw (toZ-ofZ {w = w32} {z = pos (c .before .before .before .before .args .back)} (count-fits (omega arith))) at (c .before .emitted .ensures .1))
 
--- src/command.rt:129:1
 returns-2 : tie.Need-returns-2
-returns-2 c = ?
+unfolding ended-walk ended-table
+returns-2 c = rw (c .if1 .left) (refl, refl)
 
 pub ended-spec : {M : Type 1} → statement M
 ended-spec = tie.close (tie.spec cast-emitted emitted-requires same-length returns returns-2)

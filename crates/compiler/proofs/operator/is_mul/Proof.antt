@@ -1,15 +1,18 @@
+-- `compiler::operator::is_mul` meets its contract. Assumes nothing.
+use mathlib.Core.Logic.{inl, inr, ⊎-elim}
+use borrow.Author.Tests.{ne-eqb}
+use Rattle.lexeme.specs.Coded.{code-of}
+use Rattle.sentence.specs.Reader.{is-mul}
 use Rattle.compiler.proofs.operator.is_mul.Statement.{statement}
 use Rattle.compiler.proofs.operator.is_mul.Tie as tie
-use Rattle.compiler.proofs.operator.is_mul.Reads as reads
-use Rattle.compiler.proofs.operator.is_mul.Lts as lts
 
--- src/operator.rt:16:1
 returns : tie.Need-returns
-returns c = ?
+unfolding is-mul code-of
+returns c = ⊎-elim (λ e. rw e) (λ e. rw e) (c .match .keys1)
 
--- src/operator.rt:16:1
 returns-2 : tie.Need-returns-2
-returns-2 c = ?
+unfolding is-mul code-of
+returns-2 c = rw (ne-eqb _ 42 (λ e. c .match .rest .1 (inl e)), ne-eqb _ 47 (λ e. c .match .rest .1 (inr e)))
 
 pub is-mul-spec : {M : Type 1} → statement M
 is-mul-spec = tie.close (tie.spec returns returns-2)

@@ -1,15 +1,18 @@
+-- `compiler::operator::is_sign` meets its contract. Assumes nothing.
+use mathlib.Core.Logic.{inl, inr, ⊎-elim}
+use borrow.Author.Tests.{ne-eqb}
+use Rattle.lexeme.specs.Coded.{code-of}
+use Rattle.sentence.specs.Reader.{is-sign}
 use Rattle.compiler.proofs.operator.is_sign.Statement.{statement}
 use Rattle.compiler.proofs.operator.is_sign.Tie as tie
-use Rattle.compiler.proofs.operator.is_sign.Reads as reads
-use Rattle.compiler.proofs.operator.is_sign.Lts as lts
 
--- src/operator.rt:7:1
 returns : tie.Need-returns
-returns c = ?
+unfolding is-sign code-of
+returns c = ⊎-elim (λ e. rw e) (λ e. rw e) (c .match .keys1)
 
--- src/operator.rt:7:1
 returns-2 : tie.Need-returns-2
-returns-2 c = ?
+unfolding is-sign code-of
+returns-2 c = rw (ne-eqb _ 43 (λ e. c .match .rest .1 (inl e)), ne-eqb _ 45 (λ e. c .match .rest .1 (inr e)))
 
 pub is-sign-spec : {M : Type 1} → statement M
 is-sign-spec = tie.close (tie.spec returns returns-2)

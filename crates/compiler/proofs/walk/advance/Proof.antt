@@ -1,39 +1,36 @@
+-- `compiler::walk::advance` meets its contract. Assumes nothing.
+use mathlib.Core.Path.{refl, sym, _∙_}
+use Rattle.lexeme.proofs.Places.{next-stands}
+use Rattle.compiler.specs.Steps.{moved-to, passed-on, Advances}
 use borrow.Author.Needs.{needs}
 use Rattle.compiler.proofs.walk.advance.Statement.{statement}
 use Rattle.compiler.proofs.walk.advance.Tie as tie
-use Rattle.compiler.proofs.walk.advance.Reads as reads
-use Rattle.compiler.proofs.walk.advance.Lts as lts
-use Rattle.compiler.proofs.walk.moved.Reads as moved-reads
-use Rattle.compiler.proofs.walk.refused.Reads as refused-reads
-use Rattle.lexer.proofs.next.Reads as next-reads
 
--- src/walk.rt:196:9
 next-requires : tie.Need-next-requires
 next-requires c κs = search needs
 
--- src/walk.rt:197:19
 enum-known-found : tie.Need-enum-known-found
 enum-known-found c = search needs
 
--- src/walk.rt:198:9
 enum-told : tie.Need-enum-told
 enum-told c = search needs
 
--- src/walk.rt:198:9
 refused-requires : tie.Need-refused-requires
 refused-requires c κs = search needs
 
--- src/walk.rt:198:9
 returns : tie.Need-returns
-returns c = ?
+unfolding Advances passed-on
+returns c = rw (c .refused .ensures, c .before .enum-told .given .1) (sym (c .before .enum-told .given .1) ∙ c .before .before .before .next .ensures)
 
--- src/walk.rt:200:16
 moved-requires : tie.Need-moved-requires
 moved-requires c κs = search needs
 
--- src/walk.rt:191:1
 returns-2 : tie.Need-returns-2
-returns-2 c = ?
+unfolding Advances moved-to
+returns-2 c =
+    let is = sym (c .before .before .found .given .1) ∙ c .before .before .before .before .next .ensures in
+    let s = next-stands _ _ _ (c .before .before .before .before .before .before .before .pre) is in
+    rw (c .moved .ensures) (record { follows = record { read = is; later = s .0; stands = s .1 }; moved = refl }, refl)
 
 pub advance-spec : {M : Type 1} → statement M
 advance-spec =

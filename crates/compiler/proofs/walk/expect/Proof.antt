@@ -1,26 +1,24 @@
+-- `compiler::walk::expect` meets its contract. Assumes nothing.
+use mathlib.Core.Path.{refl, sym, _∙_}
+use mathlib.Core.Logic.{inl, inr}
+use Rattle.compiler.specs.Steps.{Expects}
 use borrow.Author.Needs.{needs}
 use Rattle.compiler.proofs.walk.expect.Statement.{statement}
 use Rattle.compiler.proofs.walk.expect.Tie as tie
-use Rattle.compiler.proofs.walk.expect.Reads as reads
-use Rattle.compiler.proofs.walk.expect.Lts as lts
-use Rattle.compiler.proofs.walk.advance.Reads as advance-reads
-use Rattle.compiler.proofs.walk.fixed_ahead.Reads as fixed-ahead-reads
 
--- src/walk.rt:208:8
 fixed-ahead-requires : tie.Need-fixed-ahead-requires
 fixed-ahead-requires c κs = search needs
 
--- src/walk.rt:209:9
 advance-requires : tie.Need-advance-requires
 advance-requires c κs = search needs
 
--- src/walk.rt:209:9
 returns : tie.Need-returns
-returns c = ?
+unfolding Expects
+returns c = inl (sym (c .before .before .fixed-ahead .ensures) ∙ c .before .if1 .taken, c .advance .ensures)
 
--- src/walk.rt:204:1
 returns-2 : tie.Need-returns-2
-returns-2 c = ?
+unfolding Expects
+returns-2 c = inr ((λ h. c .before .if1 .left (c .before .before .fixed-ahead .ensures ∙ h)), refl)
 
 pub expect-spec : {M : Type 1} → statement M
 expect-spec = tie.close (tie.spec fixed-ahead-requires advance-requires returns returns-2)

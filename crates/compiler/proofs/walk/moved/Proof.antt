@@ -1,11 +1,12 @@
+-- `compiler::walk::moved` meets its contract. Assumes nothing.
+use mathlib.Core.Path.{refl}
+use Rattle.compiler.specs.Steps.{moved-to}
 use Rattle.compiler.proofs.walk.moved.Statement.{statement}
 use Rattle.compiler.proofs.walk.moved.Tie as tie
-use Rattle.compiler.proofs.walk.moved.Reads as reads
-use Rattle.compiler.proofs.walk.moved.Lts as lts
 
--- src/walk.rt:177:1
 returns : tie.Need-returns
-returns c = ?
+unfolding moved-to
+returns c = refl
 
 pub moved-spec : {M : Type 1} → statement M
 moved-spec = tie.close (tie.spec returns)
