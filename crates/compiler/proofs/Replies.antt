@@ -2,6 +2,7 @@
 use mathlib.Core.Path.{_≡_, refl, sym, ap, subst, _∙_}
 use mathlib.Core.List.{List, [], _∷_}
 use mathlib.Core.Bool.{Bool, true}
+use mathlib.Core.Logic.{inl, inr}
 use Prim.Native.Nat.{ℕ, _+_, _≤_, _<_, max}
 use native.Mathlib.Nat.{le-refl}
 use native.Mathlib.Omega.{arith}
@@ -45,6 +46,7 @@ module _ {k : Kind} (way : Way k (Sen Name k)) {text names names′ : List ℕ} 
   unfolding Reads
   done e g = rw e (g .what, g .passed, g .laid)
 
+
 module _ {k : Kind} (way : Way k (Sen Name k)) (text names : List ℕ) (table : List ℤ) (w : Walk) (allow : ℕ) (names′ : List ℕ) (table′ : List ℤ) {r : Read} {why : Refusal} {p : ℕ} (is : r ≡ Refused why p) where
   pub barred : Reads k (way .start) (way .stop) text names table w allow r names′ table′ → Barred way text (w .next) allow why p
   unfolding Reads
@@ -76,6 +78,12 @@ module _ (text : List ℕ) (w : Walk) (need : ℕ) {r : Read} (a : Advances text
   pub unread : {why : Refusal} {p : ℕ} → r ≡ Refused why p → reply.Refused why p ≡ coded (next text (w .next .end))
   unfolding Advances
   unread {why} {p} e = let b : Advances text w need (Refused why p) = rw e at a in b
+
+-- an expected lexeme was passed
+pub expected : (text : List ℕ) (w : Walk) (f need : ℕ) {v : Walk} {g : Gives} → Expects text w f need (Done v g) → Past text w v × (g ≡ record { need = need })
+unfolding Expects Advances
+expected text w f need (inl (n, a)) = a
+expected text w f need (inr (n, e)) = let z : _≡_ {A = ℕ} 0 1 = cc in absurd (omega arith)
 
 -- ---- what the next reader may be called with
 

@@ -1,6 +1,39 @@
-use Prim.Native.Nat.{ℕ, _<_}
+-- The readers of expressions, terms and factors meet their contracts. Assumes nothing.
+use Prim.Native.Nat.{ℕ, suc, _+_, _-_, _*_, _≤_, _<_}
+use mathlib.Core.Path.{_≡_, refl, sym, ap, subst, _∙_}
+use mathlib.Core.List.{List, [], _∷_}
+use mathlib.Core.Bool.{Bool, true, false, not}
+use mathlib.Core.Logic.{inl, inr}
+use native.Mathlib.Nat.{le-refl}
+use native.Mathlib.Omega.{arith}
+use borrow.Author.Needs.{needs}
 use borrow.Fn.Kinds.{In}
 use borrow.Fn.PlainCycle.{Measures, is, falls, and}
+use mir.Facts.{toZ-ofZ}
+use denote.Ref.{now}
+use lib.IntN.{ℤ, pos}
+use lib.ListN.{length}
+use Rattle.lexeme.specs.Lexemes.{close-round, open-round}
+use Rattle.lexeme.specs.Coded.{code-of, kind-of, fixed-number}
+use Rattle.lexeme.specs.declared.Kind.{Kind}
+use Rattle.lexeme.specs.declared.Kind.the-variants as kind
+use Rattle.sentence.specs.Sentences as S
+use Rattle.sentence.specs.Sentences.{Sign, plus, minus, sign}
+use Rattle.sentence.specs.Reader.{is-sign, is-mul}
+use Rattle.sentence.proofs.Operators.{number-of}
+use Rattle.compiler.specs.declared.walk.Walk.{Walk}
+use Rattle.compiler.specs.declared.walk.Gives.{Gives}
+use Rattle.compiler.specs.declared.walk.Read.{Read}
+use Rattle.compiler.specs.declared.walk.Read.the-variants.{Done, Refused}
+use Rattle.compiler.specs.Steps.{moved-to, one-more, noted-walk, cell-of, cell-number, operand-of, Past, Advances, Expects}
+use Rattle.compiler.specs.Tables.{put}
+use Rattle.compiler.specs.Walks.{Reads, Reads-factor, Ready, Lays, name-of}
+use Rattle.compiler.proofs.Lays.{trail, lead, lays-literal, lays-bracket, lays-first, lays-unsigned, lays-signed-plus, lays-signed-minus}
+use Rattle.compiler.proofs.Names.{noted-is, lays-variable}
+use Rattle.compiler.proofs.Looked.{going, literal-goes, name-goes, signs, Is-one, is-one}
+use Rattle.compiler.proofs.Reading.{met}
+use Rattle.compiler.proofs.Passes.{factor-way, term-so-far, term-way, first-term-way, expression-way, literal-factor, variable-factor, no-factor, bracket-too-deep, bracket-refused, bracket-closed, bracket-unclosed, term-first, term-whole, unsigned-leads, signed-leads, expression-whole, lost-first}
+use Rattle.compiler.proofs.Replies.{Got, got, done, barred, stopped, handed-on, past, gives-need, unread, expected, code-fits, ready-past, ready-got, counts-got, term-joins, expression-joins, right-lost, right-refused, right-later, Rounds, round-on}
 use Rattle.compiler.proofs.expression.bracket.Reads as bracket
 use Rattle.compiler.proofs.expression.bracket.Kinds as bracket-kinds
 use Rattle.compiler.proofs.expression.+bracket+expression+factor+first_term+term.Lts-bracket as bracket-lts
@@ -33,20 +66,153 @@ use Rattle.compiler.proofs.expression.+bracket+expression+factor+first_
   close,
 }
 
+-- a class name, a string and a fixed lexeme are no literal and no name
+abbrev No-operand : Kind → Type 0
+No-operand k = ((v : ℕ) → k ≡ kind.Literal v → ⊥) × (k ≡ kind.Name → ⊥)
+
+module _ {k : Kind} where
+  class-none : k ≡ kind.Class → No-operand k
+  class-none e = ((λ v h. let z : _≡_ {A = ℕ} 0 1 = cc in omega arith), λ h. let z : _≡_ {A = ℕ} 0 1 = cc in omega arith)
+
+  string-none : k ≡ kind.Str → No-operand k
+  string-none e = ((λ v h. let z : _≡_ {A = ℕ} 0 1 = cc in omega arith), λ h. let z : _≡_ {A = ℕ} 0 1 = cc in omega arith)
+
+  fixed-none : {f : ℕ} → k ≡ kind.Fixed f → No-operand k
+  fixed-none e = ((λ v h. let z : _≡_ {A = ℕ} 0 1 = cc in omega arith), λ h. let z : _≡_ {A = ℕ} 0 1 = cc in omega arith)
+
+  class-number : k ≡ kind.Class → fixed-number k ≡ code-of open-round → ⊥
+  unfolding fixed-number code-of
+  class-number e h = let z : _≡_ {A = ℕ} 255 40 = sym (ap fixed-number e) ∙ h in omega arith
+
+  string-number : k ≡ kind.Str → fixed-number k ≡ code-of open-round → ⊥
+  unfolding fixed-number code-of
+  string-number e h = let z : _≡_ {A = ℕ} 255 40 = sym (ap fixed-number e) ∙ h in omega arith
+
+  fixed-is : {f : ℕ} → k ≡ kind.Fixed f → fixed-number k ≡ f
+  unfolding fixed-number
+  fixed-is e = ap fixed-number e
+
+-- a flag that is turned round
+flag-off : (b : Bool) → not b ≡ true → b ≡ false
+flag-off true e = sym e
+flag-off false e = refl
+
+flag-on : (b : Bool) → not b ≡ false → b ≡ true
+flag-on true e = refl
+flag-on false e = sym e
+
+-- one nesting more than is allowed inside is what is allowed
+one-allowed : {text names : List ℕ} {w : Walk} {allow : ℕ} → Ready text names w allow → (allow ≡ 0 → ⊥) → Ready text names w (suc (allow - 1))
+one-allowed {allow} a n = let e : suc (allow - 1) ≡ allow = omega arith in rw e a
+
+one-read : (text names : List ℕ) (table : List ℤ) (w : Walk) (allow : ℕ) (r : Read) (names′ : List ℕ) (table′ : List ℤ) → (allow ≡ 0 → ⊥) → Reads-factor text names table w (suc (allow - 1)) r names′ table′ → Reads-factor text names table w allow r names′ table′
+one-read text names table w allow r names′ table′ n h = let e : suc (allow - 1) ≡ allow = omega arith in rw e at h
+
+-- an operand ahead: its instruction is written, and it is passed
+module _ {text names : List ℕ} (table : List ℤ) {table′ : List ℤ} {w x : Walk} {allow : ℕ} (ready : Ready text names w allow) where
+  literal-read : {v : ℕ} {z : ℤ} → w .next .kind ≡ kind.Literal v → x ≡ one-more w → z ≡ pos (operand-of v) → table′ ≡ put table (w .code) (pos 2 ∷ z ∷ []) → (r : Read) → Advances text x 1 r → Reads-factor text names table w allow r names table′
+  unfolding Reads one-more
+  literal-read {v} h e o t (Done u g) a =
+      let p = subst (λ (y : Walk). Past text y u) e (past text x 1 a refl) in
+      (
+        S.literal (operand-of v),
+        literal-factor (ready .stands) allow (p .follows) v h,
+        subst (λ (y : Walk). Lays text names table w (S.literal (operand-of v)) names table′ y g) (sym (p .moved))
+        (rw (t, o, gives-need text x 1 a refl) (lays-literal (operand-of v) (u .next) (omega (arith, ready .stands .some (literal-goes (w .next) h), p .follows .later)) (ready .fine))),
+      )
+  literal-read h e o t (Refused why p) a = lost-first factor-way text (w .next) allow (literal-goes (w .next) h) (rw e at (unread text x 1 a refl))
+
+  variable-read : w .next .kind ≡ kind.Name → let c = cell-of text names w (w .next) in
+      x ≡ one-more (noted-walk c w (w .next .place)) → table′ ≡ put table (w .code) (pos 3 ∷ pos (cell-number c) ∷ []) → (r : Read) → Advances text x 1 r → Reads-factor text names table w allow r names table′
+  unfolding Reads one-more
+  variable-read h e t (Done u g) a =
+      let c = cell-of text names w (w .next) in
+      let p = subst (λ (y : Walk). Past text y u) e (past text x 1 a refl) in
+      let f = rw (noted-is c w (w .next .place)) at (p .follows) in
+      (
+        S.variable (name-of text (w .next)),
+        variable-factor (ready .stands) allow f h,
+        subst (λ (y : Walk). Lays text names table w (S.variable (name-of text (w .next))) names table′ y g) (sym (p .moved))
+        (rw (t, gives-need text x 1 a refl) (lays-variable (u .next) (omega (arith, ready .stands .some (name-goes (w .next) h), f .later)) (ready .fine))),
+      )
+  variable-read h e t (Refused why p) a = lost-first factor-way text (w .next) allow (name-goes (w .next) h) (rw (e, noted-is) at (unread text x 1 a refl))
+
+-- `(` was read and an Expression; then `)`, or not
+bracket-read : {text names : List ℕ} {table table′ : List ℤ} {w x v : Walk} {g : Gives} (allow : ℕ) → Ready text names w (suc allow) → fixed-number (w .next .kind) ≡ code-of open-round → Past text w x → Got expression-way text names table x allow names table′ v g → (r : Read) → Expects text v (code-of close-round) (g .need) r → Reads-factor text names table w (suc allow) r names table′
+unfolding Reads
+bracket-read {text} {names} {table} {table′} {w} {x} {v} {g} allow ready h p b (Done u k) e =
+    let m = met text v (g .need) close-round u k e in
+    let q = expected text v (code-of close-round) (g .need) e in
+    let l = subst (λ (y : Walk). Lays text names table y (b .what) names table′ v g) (p .moved) (b .laid) in
+    (
+      S.bracket (b .what),
+      bracket-closed (ready .stands) allow h (p .follows) (b .what) (b .passed) m,
+      subst (λ (y : Walk). Lays text names table w (S.bracket (b .what)) names table′ y k) (sym (q .0 .moved))
+      (rw (q .1) (trail (u .next) (omega (arith, b .passed .stands .order, m .follows .later)) (lays-bracket (lead (x .next) (omega (arith, ready .stands .order, p .follows .later)) l)))),
+    )
+bracket-read {text} {v} {g} allow ready h p b (Refused why q) e = bracket-unclosed (ready .stands) allow h (p .follows) v (g .need) (b .what) (b .passed) why q e
+
+-- a Term of one Factor so far
+first-factor : {text names : List ℕ} {table table′ : List ℤ} {w v : Walk} {allow : ℕ} {g : Gives} → Got factor-way text names table w allow names table′ v g → Got term-so-far text names table w allow names table′ v g
+first-factor {text} {w} {allow} b = record { what = S.first (b .what); passed = term-first text (w .next) allow .passes (b .what) (b .passed); laid = lays-first (b .laid) }
+
+-- the numbers of the signs
+plus-not-minus : number-of (sign plus) ≡ 45 → ⊥
+unfolding sign kind-of fixed-number code-of
+plus-not-minus e = omega arith
+
+minus-number : number-of (sign minus) ≡ 45
+unfolding sign kind-of fixed-number code-of
+minus-number = refl
+
+-- a Term after a sign
+sign-ahead : {text names : List ℕ} {w : Walk} {allow f : ℕ} → Ready text names w allow → f ≡ fixed-number (w .next .kind) → is-sign f ≡ true → Is-one signs text (w .next)
+sign-ahead ready n h = is-one signs (ready .stands) (ap is-sign (sym n) ∙ h)
+
+module _ {text names : List ℕ} {table table′ : List ℤ} {w x v : Walk} {allow : ℕ} {g : Gives} (ready : Ready text names w allow) (o : Is-one signs text (w .next)) (p : Past text w x) (b : Got term-way text names table x allow names table′ v g) where
+  sign-later : w .next .place < x .next .place
+  sign-later = omega (arith, ready .stands .some (o .goes), p .follows .later)
+
+  after-sign : Lays text names table (moved-to w (x .next)) (b .what) names table′ v g
+  after-sign = subst (λ (y : Walk). Lays text names table y (b .what) names table′ v g) (p .moved) (b .laid)
+
+  minus-got : fixed-number (w .next .kind) ≡ 45 → Got first-term-way text names table w allow names (put table′ (v .code) (pos 14 ∷ pos 0 ∷ [])) (one-more v) g
+  unfolding one-more
+  minus-got h = record {
+    what = S.signed (o .which) (b .what);
+    passed = signed-leads (ready .stands) allow o (p .follows) .passes (b .what) (b .passed);
+    laid = by (o .which) (sym (o .number) ∙ h);
+  }
+    where
+      by : (s : Sign) → number-of (sign s) ≡ 45 → Lays text names table w (S.signed s (b .what)) names (put table′ (v .code) (pos 14 ∷ pos 0 ∷ [])) (one-more v) g
+      by plus e = absurd (plus-not-minus e)
+      by minus e = lays-signed-minus (x .next) sign-later after-sign
+
+  plus-got : (fixed-number (w .next .kind) ≡ 45 → ⊥) → Got first-term-way text names table w allow names table′ v g
+  plus-got h = record {
+    what = S.signed (o .which) (b .what);
+    passed = signed-leads (ready .stands) allow o (p .follows) .passes (b .what) (b .passed);
+    laid = by (o .which) (λ e. h (o .number ∙ e));
+  }
+    where
+      by : (s : Sign) → (number-of (sign s) ≡ 45 → ⊥) → Lays text names table w (S.signed s (b .what)) names table′ v g
+      by plus e = lays-signed-plus (x .next) sign-later after-sign
+      by minus e = absurd (e minus-number)
+
 abbrev μ-bracket : Measures 3 bracket-kinds.ps ℕ
-μ-bracket κs a = ?
+μ-bracket κs a = a .0 * 5 + 4
 
 abbrev μ-expression : Measures 3 expression-kinds.ps ℕ
-μ-expression κs a = ?
+μ-expression κs a = a .0 * 5 + 3
 
 abbrev μ-factor : Measures 3 factor-kinds.ps ℕ
-μ-factor κs a = ?
+μ-factor κs a = a .0 * 5
 
 abbrev μ-first-term : Measures 3 first-term-kinds.ps ℕ
-μ-first-term κs a = ?
+μ-first-term κs a = a .0 * 5 + 2
 
 abbrev μ-term : Measures 3 term-kinds.ps ℕ
-μ-term κs a = ?
+μ-term κs a = a .0 * 5 + 1
 
 abbrev bracket-at : ℕ → In 3 bracket-kinds.ps
 bracket-at t = and 3 bracket-kinds.ps (is 3 bracket-kinds.ps μ-bracket t) bracket.Pre
@@ -82,1831 +248,375 @@ term-at t = and 3 term-kinds.ps (is 3 term-kinds.ps μ-term t) term.Pre
 abbrev term-below : ℕ → In 3 term-kinds.ps
 term-below t = and 3 term-kinds.ps (falls 3 term-kinds.ps _<_ μ-term t) term.Pre
 
--- src/expression.rt:52:9
-bracket-advance-requires : (t : ℕ) → bracket-lts.Need-advance-requires (
-  advance-reads.Asked,
-  advance-reads.Learnt,
-  expression-below t,
-  expression.Post,
-  expect-reads.Asked,
-  expect-reads.Learnt,
-) (bracket-at t) bracket.Post
-bracket-advance-requires t c κs = ?
+abbrev bracket-calls : ℕ → bracket-lts.Claims
+bracket-calls t = (advance-reads.Asked, advance-reads.Learnt, expression-below t, expression.Post, expect-reads.Asked, expect-reads.Learnt)
 
--- src/expression.rt:53:20
-bracket-enum-known-a : (t : ℕ) → bracket-lts.Need-enum-known-a (
-  advance-reads.Asked,
-  advance-reads.Learnt,
-  expression-below t,
-  expression.Post,
-  expect-reads.Asked,
-  expect-reads.Learnt,
-) (bracket-at t) bracket.Post
-bracket-enum-known-a t c = ?
+abbrev expression-calls : ℕ → expression-lts.Claims
+expression-calls t = (first-term-below t, first-term.Post, fixed-ahead-reads.Asked, fixed-ahead-reads.Learnt, is-sign-reads.Asked, is-sign-reads.Learnt, advance-reads.Asked, advance-reads.Learnt, term-below t, term.Post, operation-reads.Asked, operation-reads.Learnt, emitted-reads.Asked, emitted-reads.Learnt, larger-reads.Asked, larger-reads.Learnt)
 
--- src/expression.rt:54:9
-bracket-enum-told : (t : ℕ) → bracket-lts.Need-enum-told (
-  advance-reads.Asked,
-  advance-reads.Learnt,
-  expression-below t,
-  expression.Post,
-  expect-reads.Asked,
-  expect-reads.Learnt,
-) (bracket-at t) bracket.Post
-bracket-enum-told t c = ?
+abbrev factor-calls : ℕ → factor-lts.Claims
+factor-calls t = (operand-reads.Asked, operand-reads.Learnt, emitted-reads.Asked, emitted-reads.Learnt, advance-reads.Asked, advance-reads.Learnt, used-reads.Asked, used-reads.Learnt, bracket-below t, bracket.Post)
 
--- src/expression.rt:54:9
-bracket-returns : (t : ℕ) → bracket-lts.Need-returns (
-  advance-reads.Asked,
-  advance-reads.Learnt,
-  expression-below t,
-  expression.Post,
-  expect-reads.Asked,
-  expect-reads.Learnt,
-) (bracket-at t) bracket.Post
-bracket-returns t c = ?
+abbrev first-term-calls : ℕ → first-term-lts.Claims
+first-term-calls t = (fixed-ahead-reads.Asked, fixed-ahead-reads.Learnt, is-sign-reads.Asked, is-sign-reads.Learnt, term-below t, term.Post, advance-reads.Asked, advance-reads.Learnt, emitted-reads.Asked, emitted-reads.Learnt)
 
--- src/expression.rt:56:9
-bracket-expression-requires : (t : ℕ) → bracket-lts.Need-expression-requires (
-  advance-reads.Asked,
-  advance-reads.Learnt,
-  expression-below t,
-  expression.Post,
-  expect-reads.Asked,
-  expect-reads.Learnt,
-) (bracket-at t) bracket.Post
-bracket-expression-requires t c κs = ?
+abbrev term-calls : ℕ → term-lts.Claims
+term-calls t = (factor-below t, factor.Post, fixed-ahead-reads.Asked, fixed-ahead-reads.Learnt, is-mul-reads.Asked, is-mul-reads.Learnt, advance-reads.Asked, advance-reads.Learnt, operation-reads.Asked, operation-reads.Learnt, emitted-reads.Asked, emitted-reads.Learnt, larger-reads.Asked, larger-reads.Learnt)
 
--- src/expression.rt:57:20
-bracket-enum-known-r : (t : ℕ) → bracket-lts.Need-enum-known-r (
-  advance-reads.Asked,
-  advance-reads.Learnt,
-  expression-below t,
-  expression.Post,
-  expect-reads.Asked,
-  expect-reads.Learnt,
-) (bracket-at t) bracket.Post
-bracket-enum-known-r t c = ?
+bracket-advance-requires : (t : ℕ) → bracket-lts.Need-advance-requires (bracket-calls t) (bracket-at t) bracket.Post
+bracket-advance-requires t c κs = c .before .before .pre .1 .0 .stands .within
 
--- src/expression.rt:58:9
-bracket-enum-told-2 : (t : ℕ) → bracket-lts.Need-enum-told-2 (
-  advance-reads.Asked,
-  advance-reads.Learnt,
-  expression-below t,
-  expression.Post,
-  expect-reads.Asked,
-  expect-reads.Learnt,
-) (bracket-at t) bracket.Post
-bracket-enum-told-2 t c = ?
+bracket-enum-known-a : (t : ℕ) → bracket-lts.Need-enum-known-a (bracket-calls t) (bracket-at t) bracket.Post
+bracket-enum-known-a t c = search needs
 
--- src/expression.rt:58:9
-bracket-same-length : (t : ℕ) → bracket-lts.Need-same-length (
-  advance-reads.Asked,
-  advance-reads.Learnt,
-  expression-below t,
-  expression.Post,
-  expect-reads.Asked,
-  expect-reads.Learnt,
-) (bracket-at t) bracket.Post
-bracket-same-length t c = ?
+bracket-enum-told : (t : ℕ) → bracket-lts.Need-enum-told (bracket-calls t) (bracket-at t) bracket.Post
+bracket-enum-told t c = search needs
 
--- src/expression.rt:58:9
-bracket-returns-2 : (t : ℕ) → bracket-lts.Need-returns-2 (
-  advance-reads.Asked,
-  advance-reads.Learnt,
-  expression-below t,
-  expression.Post,
-  expect-reads.Asked,
-  expect-reads.Learnt,
-) (bracket-at t) bracket.Post
-bracket-returns-2 t c = ?
+bracket-returns : (t : ℕ) → bracket-lts.Need-returns (bracket-calls t) (bracket-at t) bracket.Post
+unfolding code-of
+bracket-returns t c = stopped factor-way _ _ _ _ _ _ _ (c .enum-told .given .1) (lost-first factor-way _ _ _ (going _ (c .before .before .before .before .before .pre .1 .1) (λ z. omega arith)) (unread _ _ _ (c .before .before .advance .ensures) (c .enum-told .given .1)))
 
--- src/expression.rt:60:5
-bracket-expect-requires : (t : ℕ) → bracket-lts.Need-expect-requires (
-  advance-reads.Asked,
-  advance-reads.Learnt,
-  expression-below t,
-  expression.Post,
-  expect-reads.Asked,
-  expect-reads.Learnt,
-) (bracket-at t) bracket.Post
-bracket-expect-requires t c κs = ?
+bracket-expression-requires : (t : ℕ) → bracket-lts.Need-expression-requires (bracket-calls t) (bracket-at t) bracket.Post
+bracket-expression-requires t c κs = (omega arith, ready-past (c .before .before .before .before .before .before .before .pre .1 .0) _ (omega arith) (past _ _ _ (c .before .before .before .before .advance .ensures) (c .before .before .a .given .1)))
 
--- src/expression.rt:47:1
-bracket-same-length-2 : (t : ℕ) → bracket-lts.Need-same-length-2 (
-  advance-reads.Asked,
-  advance-reads.Learnt,
-  expression-below t,
-  expression.Post,
-  expect-reads.Asked,
-  expect-reads.Learnt,
-) (bracket-at t) bracket.Post
-bracket-same-length-2 t c = ?
+bracket-enum-known-r : (t : ℕ) → bracket-lts.Need-enum-known-r (bracket-calls t) (bracket-at t) bracket.Post
+bracket-enum-known-r t c = search needs
 
--- src/expression.rt:47:1
-bracket-returns-3 : (t : ℕ) → bracket-lts.Need-returns-3 (
-  advance-reads.Asked,
-  advance-reads.Learnt,
-  expression-below t,
-  expression.Post,
-  expect-reads.Asked,
-  expect-reads.Learnt,
-) (bracket-at t) bracket.Post
-bracket-returns-3 t c = ?
+bracket-enum-told-2 : (t : ℕ) → bracket-lts.Need-enum-told-2 (bracket-calls t) (bracket-at t) bracket.Post
+bracket-enum-told-2 t c = search needs
+
+bracket-same-length : (t : ℕ) → bracket-lts.Need-same-length (bracket-calls t) (bracket-at t) bracket.Post
+bracket-same-length t c = search needs
+
+bracket-returns-2 : (t : ℕ) → bracket-lts.Need-returns-2 (bracket-calls t) (bracket-at t) bracket.Post
+unfolding code-of
+bracket-returns-2 t c = stopped factor-way _ _ _ _ _ _ _ (c .enum-told2 .given .1) (bracket-refused (c .before .before .before .before .before .before .before .before .before .before .before .pre .1 .0 .stands) _ (c .before .before .before .before .before .before .before .before .before .before .before .pre .1 .1) (past _ _ _ (c .before .before .before .before .before .before .before .before .advance .ensures) (c .before .before .before .before .before .before .a .given .1) .follows) _ _ (barred expression-way _ _ _ _ _ _ _ (c .enum-told2 .given .1) (c .before .before .before .expression .ensures)))
+
+bracket-expect-requires : (t : ℕ) → bracket-lts.Need-expect-requires (bracket-calls t) (bracket-at t) bracket.Post
+bracket-expect-requires t c κs = got expression-way (c .before .r .given .1) (c .before .before .before .before .expression .ensures) .passed .stands .within
+
+bracket-same-length-2 : (t : ℕ) → bracket-lts.Need-same-length-2 (bracket-calls t) (bracket-at t) bracket.Post
+bracket-same-length-2 t c = search needs
+
+bracket-returns-3 : (t : ℕ) → bracket-lts.Need-returns-3 (bracket-calls t) (bracket-at t) bracket.Post
+unfolding code-of
+bracket-returns-3 t c = bracket-read _ (c .before .before .before .before .before .before .before .before .before .before .before .before .before .pre .1 .0) (c .before .before .before .before .before .before .before .before .before .before .before .before .before .pre .1 .1) (past _ _ _ (c .before .before .before .before .before .before .before .before .before .before .advance .ensures) (c .before .before .before .before .before .before .before .before .a .given .1)) (got expression-way (c .before .before .r .given .1) (c .before .before .before .before .before .expression .ensures)) _ (c .expect .ensures)
 
 abbrev expression-Inv-loop : expression-lts.InvT-loop
-expression-Inv-loop text names table₀ allow left₀ need₀ table left need = ?
+expression-Inv-loop allow text names table₀ left₀ need₀ table left need = Rounds first-term-way text names table₀ allow left₀ need₀ table left need
 
 abbrev expression-μ-loop : expression-lts.MeasureT-loop
-expression-μ-loop text names table₀ allow left₀ need₀ table left need = ?
-
--- src/expression.rt:118:9
-expression-first-term-requires : (t : ℕ) → expression-lts.Need-first-term-requires (
-  first-term-below t,
-  first-term.Post,
-  fixed-ahead-reads.Asked,
-  fixed-ahead-reads.Learnt,
-  is-sign-reads.Asked,
-  is-sign-reads.Learnt,
-  advance-reads.Asked,
-  advance-reads.Learnt,
-  term-below t,
-  term.Post,
-  operation-reads.Asked,
-  operation-reads.Learnt,
-  emitted-reads.Asked,
-  emitted-reads.Learnt,
-  larger-reads.Asked,
-  larger-reads.Learnt,
-) (expression-at t) expression.Post expression-Inv-loop expression-μ-loop
-expression-first-term-requires t c κs = ?
-
--- src/expression.rt:119:20
-expression-enum-known-first : (t : ℕ) → expression-lts.Need-enum-known-first (
-  first-term-below t,
-  first-term.Post,
-  fixed-ahead-reads.Asked,
-  fixed-ahead-reads.Learnt,
-  is-sign-reads.Asked,
-  is-sign-reads.Learnt,
-  advance-reads.Asked,
-  advance-reads.Learnt,
-  term-below t,
-  term.Post,
-  operation-reads.Asked,
-  operation-reads.Learnt,
-  emitted-reads.Asked,
-  emitted-reads.Learnt,
-  larger-reads.Asked,
-  larger-reads.Learnt,
-) (expression-at t) expression.Post expression-Inv-loop expression-μ-loop
-expression-enum-known-first t c = ?
-
--- src/expression.rt:120:9
-expression-enum-told : (t : ℕ) → expression-lts.Need-enum-told (
-  first-term-below t,
-  first-term.Post,
-  fixed-ahead-reads.Asked,
-  fixed-ahead-reads.Learnt,
-  is-sign-reads.Asked,
-  is-sign-reads.Learnt,
-  advance-reads.Asked,
-  advance-reads.Learnt,
-  term-below t,
-  term.Post,
-  operation-reads.Asked,
-  operation-reads.Learnt,
-  emitted-reads.Asked,
-  emitted-reads.Learnt,
-  larger-reads.Asked,
-  larger-reads.Learnt,
-) (expression-at t) expression.Post expression-Inv-loop expression-μ-loop
-expression-enum-told t c = ?
-
--- src/expression.rt:120:9
-expression-same-length : (t : ℕ) → expression-lts.Need-same-length (
-  first-term-below t,
-  first-term.Post,
-  fixed-ahead-reads.Asked,
-  fixed-ahead-reads.Learnt,
-  is-sign-reads.Asked,
-  is-sign-reads.Learnt,
-  advance-reads.Asked,
-  advance-reads.Learnt,
-  term-below t,
-  term.Post,
-  operation-reads.Asked,
-  operation-reads.Learnt,
-  emitted-reads.Asked,
-  emitted-reads.Learnt,
-  larger-reads.Asked,
-  larger-reads.Learnt,
-) (expression-at t) expression.Post expression-Inv-loop expression-μ-loop
-expression-same-length t c = ?
-
--- src/expression.rt:120:9
-expression-returns : (t : ℕ) → expression-lts.Need-returns (
-  first-term-below t,
-  first-term.Post,
-  fixed-ahead-reads.Asked,
-  fixed-ahead-reads.Learnt,
-  is-sign-reads.Asked,
-  is-sign-reads.Learnt,
-  advance-reads.Asked,
-  advance-reads.Learnt,
-  term-below t,
-  term.Post,
-  operation-reads.Asked,
-  operation-reads.Learnt,
-  emitted-reads.Asked,
-  emitted-reads.Learnt,
-  larger-reads.Asked,
-  larger-reads.Learnt,
-) (expression-at t) expression.Post expression-Inv-loop expression-μ-loop
-expression-returns t c = ?
-
--- src/expression.rt:124:5
-expression-loop-holds : (t : ℕ) → expression-lts.Need-loop-holds (
-  first-term-below t,
-  first-term.Post,
-  fixed-ahead-reads.Asked,
-  fixed-ahead-reads.Learnt,
-  is-sign-reads.Asked,
-  is-sign-reads.Learnt,
-  advance-reads.Asked,
-  advance-reads.Learnt,
-  term-below t,
-  term.Post,
-  operation-reads.Asked,
-  operation-reads.Learnt,
-  emitted-reads.Asked,
-  emitted-reads.Learnt,
-  larger-reads.Asked,
-  larger-reads.Learnt,
-) (expression-at t) expression.Post expression-Inv-loop expression-μ-loop
-expression-loop-holds t c = ?
-
--- src/expression.rt:125:13
-expression-fixed-ahead-requires : (t : ℕ) → expression-lts.Need-fixed-ahead-requires (
-  first-term-below t,
-  first-term.Post,
-  fixed-ahead-reads.Asked,
-  fixed-ahead-reads.Learnt,
-  is-sign-reads.Asked,
-  is-sign-reads.Learnt,
-  advance-reads.Asked,
-  advance-reads.Learnt,
-  term-below t,
-  term.Post,
-  operation-reads.Asked,
-  operation-reads.Learnt,
-  emitted-reads.Asked,
-  emitted-reads.Learnt,
-  larger-reads.Asked,
-  larger-reads.Learnt,
-) (expression-at t) expression.Post expression-Inv-loop expression-μ-loop
-expression-fixed-ahead-requires t c κs = ?
-
--- src/expression.rt:126:13
-expression-is-sign-requires : (t : ℕ) → expression-lts.Need-is-sign-requires (
-  first-term-below t,
-  first-term.Post,
-  fixed-ahead-reads.Asked,
-  fixed-ahead-reads.Learnt,
-  is-sign-reads.Asked,
-  is-sign-reads.Learnt,
-  advance-reads.Asked,
-  advance-reads.Learnt,
-  term-below t,
-  term.Post,
-  operation-reads.Asked,
-  operation-reads.Learnt,
-  emitted-reads.Asked,
-  emitted-reads.Learnt,
-  larger-reads.Asked,
-  larger-reads.Learnt,
-) (expression-at t) expression.Post expression-Inv-loop expression-μ-loop
-expression-is-sign-requires t c κs = ?
-
--- src/expression.rt:127:13
-expression-same-length-2 : (t : ℕ) → expression-lts.Need-same-length-2 (
-  first-term-below t,
-  first-term.Post,
-  fixed-ahead-reads.Asked,
-  fixed-ahead-reads.Learnt,
-  is-sign-reads.Asked,
-  is-sign-reads.Learnt,
-  advance-reads.Asked,
-  advance-reads.Learnt,
-  term-below t,
-  term.Post,
-  operation-reads.Asked,
-  operation-reads.Learnt,
-  emitted-reads.Asked,
-  emitted-reads.Learnt,
-  larger-reads.Asked,
-  larger-reads.Learnt,
-) (expression-at t) expression.Post expression-Inv-loop expression-μ-loop
-expression-same-length-2 t c = ?
-
--- src/expression.rt:127:13
-expression-returns-2 : (t : ℕ) → expression-lts.Need-returns-2 (
-  first-term-below t,
-  first-term.Post,
-  fixed-ahead-reads.Asked,
-  fixed-ahead-reads.Learnt,
-  is-sign-reads.Asked,
-  is-sign-reads.Learnt,
-  advance-reads.Asked,
-  advance-reads.Learnt,
-  term-below t,
-  term.Post,
-  operation-reads.Asked,
-  operation-reads.Learnt,
-  emitted-reads.Asked,
-  emitted-reads.Learnt,
-  larger-reads.Asked,
-  larger-reads.Learnt,
-) (expression-at t) expression.Post expression-Inv-loop expression-μ-loop
-expression-returns-2 t c = ?
-
--- src/expression.rt:129:13
-expression-advance-requires : (t : ℕ) → expression-lts.Need-advance-requires (
-  first-term-below t,
-  first-term.Post,
-  fixed-ahead-reads.Asked,
-  fixed-ahead-reads.Learnt,
-  is-sign-reads.Asked,
-  is-sign-reads.Learnt,
-  advance-reads.Asked,
-  advance-reads.Learnt,
-  term-below t,
-  term.Post,
-  operation-reads.Asked,
-  operation-reads.Learnt,
-  emitted-reads.Asked,
-  emitted-reads.Learnt,
-  larger-reads.Asked,
-  larger-reads.Learnt,
-) (expression-at t) expression.Post expression-Inv-loop expression-μ-loop
-expression-advance-requires t c κs = ?
-
--- src/expression.rt:130:24
-expression-enum-known-a : (t : ℕ) → expression-lts.Need-enum-known-a (
-  first-term-below t,
-  first-term.Post,
-  fixed-ahead-reads.Asked,
-  fixed-ahead-reads.Learnt,
-  is-sign-reads.Asked,
-  is-sign-reads.Learnt,
-  advance-reads.Asked,
-  advance-reads.Learnt,
-  term-below t,
-  term.Post,
-  operation-reads.Asked,
-  operation-reads.Learnt,
-  emitted-reads.Asked,
-  emitted-reads.Learnt,
-  larger-reads.Asked,
-  larger-reads.Learnt,
-) (expression-at t) expression.Post expression-Inv-loop expression-μ-loop
-expression-enum-known-a t c = ?
-
--- src/expression.rt:131:13
-expression-enum-told-2 : (t : ℕ) → expression-lts.Need-enum-told-2 (
-  first-term-below t,
-  first-term.Post,
-  fixed-ahead-reads.Asked,
-  fixed-ahead-reads.Learnt,
-  is-sign-reads.Asked,
-  is-sign-reads.Learnt,
-  advance-reads.Asked,
-  advance-reads.Learnt,
-  term-below t,
-  term.Post,
-  operation-reads.Asked,
-  operation-reads.Learnt,
-  emitted-reads.Asked,
-  emitted-reads.Learnt,
-  larger-reads.Asked,
-  larger-reads.Learnt,
-) (expression-at t) expression.Post expression-Inv-loop expression-μ-loop
-expression-enum-told-2 t c = ?
-
--- src/expression.rt:131:13
-expression-same-length-3 : (t : ℕ) → expression-lts.Need-same-length-3 (
-  first-term-below t,
-  first-term.Post,
-  fixed-ahead-reads.Asked,
-  fixed-ahead-reads.Learnt,
-  is-sign-reads.Asked,
-  is-sign-reads.Learnt,
-  advance-reads.Asked,
-  advance-reads.Learnt,
-  term-below t,
-  term.Post,
-  operation-reads.Asked,
-  operation-reads.Learnt,
-  emitted-reads.Asked,
-  emitted-reads.Learnt,
-  larger-reads.Asked,
-  larger-reads.Learnt,
-) (expression-at t) expression.Post expression-Inv-loop expression-μ-loop
-expression-same-length-3 t c = ?
-
--- src/expression.rt:131:13
-expression-returns-3 : (t : ℕ) → expression-lts.Need-returns-3 (
-  first-term-below t,
-  first-term.Post,
-  fixed-ahead-reads.Asked,
-  fixed-ahead-reads.Learnt,
-  is-sign-reads.Asked,
-  is-sign-reads.Learnt,
-  advance-reads.Asked,
-  advance-reads.Learnt,
-  term-below t,
-  term.Post,
-  operation-reads.Asked,
-  operation-reads.Learnt,
-  emitted-reads.Asked,
-  emitted-reads.Learnt,
-  larger-reads.Asked,
-  larger-reads.Learnt,
-) (expression-at t) expression.Post expression-Inv-loop expression-μ-loop
-expression-returns-3 t c = ?
-
--- src/expression.rt:133:13
-expression-term-requires : (t : ℕ) → expression-lts.Need-term-requires (
-  first-term-below t,
-  first-term.Post,
-  fixed-ahead-reads.Asked,
-  fixed-ahead-reads.Learnt,
-  is-sign-reads.Asked,
-  is-sign-reads.Learnt,
-  advance-reads.Asked,
-  advance-reads.Learnt,
-  term-below t,
-  term.Post,
-  operation-reads.Asked,
-  operation-reads.Learnt,
-  emitted-reads.Asked,
-  emitted-reads.Learnt,
-  larger-reads.Asked,
-  larger-reads.Learnt,
-) (expression-at t) expression.Post expression-Inv-loop expression-μ-loop
-expression-term-requires t c κs = ?
-
--- src/expression.rt:134:24
-expression-enum-known-r : (t : ℕ) → expression-lts.Need-enum-known-r (
-  first-term-below t,
-  first-term.Post,
-  fixed-ahead-reads.Asked,
-  fixed-ahead-reads.Learnt,
-  is-sign-reads.Asked,
-  is-sign-reads.Learnt,
-  advance-reads.Asked,
-  advance-reads.Learnt,
-  term-below t,
-  term.Post,
-  operation-reads.Asked,
-  operation-reads.Learnt,
-  emitted-reads.Asked,
-  emitted-reads.Learnt,
-  larger-reads.Asked,
-  larger-reads.Learnt,
-) (expression-at t) expression.Post expression-Inv-loop expression-μ-loop
-expression-enum-known-r t c = ?
-
--- src/expression.rt:135:13
-expression-enum-told-3 : (t : ℕ) → expression-lts.Need-enum-told-3 (
-  first-term-below t,
-  first-term.Post,
-  fixed-ahead-reads.Asked,
-  fixed-ahead-reads.Learnt,
-  is-sign-reads.Asked,
-  is-sign-reads.Learnt,
-  advance-reads.Asked,
-  advance-reads.Learnt,
-  term-below t,
-  term.Post,
-  operation-reads.Asked,
-  operation-reads.Learnt,
-  emitted-reads.Asked,
-  emitted-reads.Learnt,
-  larger-reads.Asked,
-  larger-reads.Learnt,
-) (expression-at t) expression.Post expression-Inv-loop expression-μ-loop
-expression-enum-told-3 t c = ?
-
--- src/expression.rt:135:13
-expression-same-length-4 : (t : ℕ) → expression-lts.Need-same-length-4 (
-  first-term-below t,
-  first-term.Post,
-  fixed-ahead-reads.Asked,
-  fixed-ahead-reads.Learnt,
-  is-sign-reads.Asked,
-  is-sign-reads.Learnt,
-  advance-reads.Asked,
-  advance-reads.Learnt,
-  term-below t,
-  term.Post,
-  operation-reads.Asked,
-  operation-reads.Learnt,
-  emitted-reads.Asked,
-  emitted-reads.Learnt,
-  larger-reads.Asked,
-  larger-reads.Learnt,
-) (expression-at t) expression.Post expression-Inv-loop expression-μ-loop
-expression-same-length-4 t c = ?
-
--- src/expression.rt:135:13
-expression-returns-4 : (t : ℕ) → expression-lts.Need-returns-4 (
-  first-term-below t,
-  first-term.Post,
-  fixed-ahead-reads.Asked,
-  fixed-ahead-reads.Learnt,
-  is-sign-reads.Asked,
-  is-sign-reads.Learnt,
-  advance-reads.Asked,
-  advance-reads.Learnt,
-  term-below t,
-  term.Post,
-  operation-reads.Asked,
-  operation-reads.Learnt,
-  emitted-reads.Asked,
-  emitted-reads.Learnt,
-  larger-reads.Asked,
-  larger-reads.Learnt,
-) (expression-at t) expression.Post expression-Inv-loop expression-μ-loop
-expression-returns-4 t c = ?
-
--- src/expression.rt:137:40
-expression-operation-requires : (t : ℕ) → expression-lts.Need-operation-requires (
-  first-term-below t,
-  first-term.Post,
-  fixed-ahead-reads.Asked,
-  fixed-ahead-reads.Learnt,
-  is-sign-reads.Asked,
-  is-sign-reads.Learnt,
-  advance-reads.Asked,
-  advance-reads.Learnt,
-  term-below t,
-  term.Post,
-  operation-reads.Asked,
-  operation-reads.Learnt,
-  emitted-reads.Asked,
-  emitted-reads.Learnt,
-  larger-reads.Asked,
-  larger-reads.Learnt,
-) (expression-at t) expression.Post expression-Inv-loop expression-μ-loop
-expression-operation-requires t c κs = ?
-
--- src/expression.rt:137:9
-expression-emitted-requires : (t : ℕ) → expression-lts.Need-emitted-requires (
-  first-term-below t,
-  first-term.Post,
-  fixed-ahead-reads.Asked,
-  fixed-ahead-reads.Learnt,
-  is-sign-reads.Asked,
-  is-sign-reads.Learnt,
-  advance-reads.Asked,
-  advance-reads.Learnt,
-  term-below t,
-  term.Post,
-  operation-reads.Asked,
-  operation-reads.Learnt,
-  emitted-reads.Asked,
-  emitted-reads.Learnt,
-  larger-reads.Asked,
-  larger-reads.Learnt,
-) (expression-at t) expression.Post expression-Inv-loop expression-μ-loop
-expression-emitted-requires t c κs = ?
-
--- src/expression.rt:138:35
-expression-add-larger : (t : ℕ) → expression-lts.Need-add-larger (
-  first-term-below t,
-  first-term.Post,
-  fixed-ahead-reads.Asked,
-  fixed-ahead-reads.Learnt,
-  is-sign-reads.Asked,
-  is-sign-reads.Learnt,
-  advance-reads.Asked,
-  advance-reads.Learnt,
-  term-below t,
-  term.Post,
-  operation-reads.Asked,
-  operation-reads.Learnt,
-  emitted-reads.Asked,
-  emitted-reads.Learnt,
-  larger-reads.Asked,
-  larger-reads.Learnt,
-) (expression-at t) expression.Post expression-Inv-loop expression-μ-loop
-expression-add-larger t c = ?
-
--- src/expression.rt:138:9
-expression-larger-requires : (t : ℕ) → expression-lts.Need-larger-requires (
-  first-term-below t,
-  first-term.Post,
-  fixed-ahead-reads.Asked,
-  fixed-ahead-reads.Learnt,
-  is-sign-reads.Asked,
-  is-sign-reads.Learnt,
-  advance-reads.Asked,
-  advance-reads.Learnt,
-  term-below t,
-  term.Post,
-  operation-reads.Asked,
-  operation-reads.Learnt,
-  emitted-reads.Asked,
-  emitted-reads.Learnt,
-  larger-reads.Asked,
-  larger-reads.Learnt,
-) (expression-at t) expression.Post expression-Inv-loop expression-μ-loop
-expression-larger-requires t c κs = ?
-
--- src/expression.rt:124:5
-expression-loop-less : (t : ℕ) → expression-lts.Need-loop-less (
-  first-term-below t,
-  first-term.Post,
-  fixed-ahead-reads.Asked,
-  fixed-ahead-reads.Learnt,
-  is-sign-reads.Asked,
-  is-sign-reads.Learnt,
-  advance-reads.Asked,
-  advance-reads.Learnt,
-  term-below t,
-  term.Post,
-  operation-reads.Asked,
-  operation-reads.Learnt,
-  emitted-reads.Asked,
-  emitted-reads.Learnt,
-  larger-reads.Asked,
-  larger-reads.Learnt,
-) (expression-at t) expression.Post expression-Inv-loop expression-μ-loop
-expression-loop-less t c = ?
-
--- src/expression.rt:124:5
-expression-loop-again : (t : ℕ) → expression-lts.Need-loop-again (
-  first-term-below t,
-  first-term.Post,
-  fixed-ahead-reads.Asked,
-  fixed-ahead-reads.Learnt,
-  is-sign-reads.Asked,
-  is-sign-reads.Learnt,
-  advance-reads.Asked,
-  advance-reads.Learnt,
-  term-below t,
-  term.Post,
-  operation-reads.Asked,
-  operation-reads.Learnt,
-  emitted-reads.Asked,
-  emitted-reads.Learnt,
-  larger-reads.Asked,
-  larger-reads.Learnt,
-) (expression-at t) expression.Post expression-Inv-loop expression-μ-loop
-expression-loop-again t c = ?
-
--- src/expression.rt:24:23
-factor-enum-known-kind : (t : ℕ) → factor-lts.Need-enum-known-kind (
-  operand-reads.Asked,
-  operand-reads.Learnt,
-  emitted-reads.Asked,
-  emitted-reads.Learnt,
-  advance-reads.Asked,
-  advance-reads.Learnt,
-  used-reads.Asked,
-  used-reads.Learnt,
-  bracket-below t,
-  bracket.Post,
-) (factor-at t) factor.Post
-factor-enum-known-kind t c = ?
-
--- src/expression.rt:25:81
-factor-cast-operand : (t : ℕ) → factor-lts.Need-cast-operand (
-  operand-reads.Asked,
-  operand-reads.Learnt,
-  emitted-reads.Asked,
-  emitted-reads.Learnt,
-  advance-reads.Asked,
-  advance-reads.Learnt,
-  used-reads.Asked,
-  used-reads.Learnt,
-  bracket-below t,
-  bracket.Post,
-) (factor-at t) factor.Post
-factor-cast-operand t c = ?
-
--- src/expression.rt:25:67
-factor-operand-requires : (t : ℕ) → factor-lts.Need-operand-requires (
-  operand-reads.Asked,
-  operand-reads.Learnt,
-  emitted-reads.Asked,
-  emitted-reads.Learnt,
-  advance-reads.Asked,
-  advance-reads.Learnt,
-  used-reads.Asked,
-  used-reads.Learnt,
-  bracket-below t,
-  bracket.Post,
-) (factor-at t) factor.Post
-factor-operand-requires t c κs = ?
-
--- src/expression.rt:25:17
-factor-emitted-requires : (t : ℕ) → factor-lts.Need-emitted-requires (
-  operand-reads.Asked,
-  operand-reads.Learnt,
-  emitted-reads.Asked,
-  emitted-reads.Learnt,
-  advance-reads.Asked,
-  advance-reads.Learnt,
-  used-reads.Asked,
-  used-reads.Learnt,
-  bracket-below t,
-  bracket.Post,
-) (factor-at t) factor.Post
-factor-emitted-requires t c κs = ?
-
--- src/expression.rt:26:13
-factor-advance-requires : (t : ℕ) → factor-lts.Need-advance-requires (
-  operand-reads.Asked,
-  operand-reads.Learnt,
-  emitted-reads.Asked,
-  emitted-reads.Learnt,
-  advance-reads.Asked,
-  advance-reads.Learnt,
-  used-reads.Asked,
-  used-reads.Learnt,
-  bracket-below t,
-  bracket.Post,
-) (factor-at t) factor.Post
-factor-advance-requires t c κs = ?
-
--- src/expression.rt:29:47
-factor-enum-told : (t : ℕ) → factor-lts.Need-enum-told (
-  operand-reads.Asked,
-  operand-reads.Learnt,
-  emitted-reads.Asked,
-  emitted-reads.Learnt,
-  advance-reads.Asked,
-  advance-reads.Learnt,
-  used-reads.Asked,
-  used-reads.Learnt,
-  bracket-below t,
-  bracket.Post,
-) (factor-at t) factor.Post
-factor-enum-told t c = ?
-
--- src/expression.rt:29:17
-factor-used-requires : (t : ℕ) → factor-lts.Need-used-requires (
-  operand-reads.Asked,
-  operand-reads.Learnt,
-  emitted-reads.Asked,
-  emitted-reads.Learnt,
-  advance-reads.Asked,
-  advance-reads.Learnt,
-  used-reads.Asked,
-  used-reads.Learnt,
-  bracket-below t,
-  bracket.Post,
-) (factor-at t) factor.Post
-factor-used-requires t c κs = ?
-
--- src/expression.rt:30:13
-factor-advance-requires-2 : (t : ℕ) → factor-lts.Need-advance-requires-2 (
-  operand-reads.Asked,
-  operand-reads.Learnt,
-  emitted-reads.Asked,
-  emitted-reads.Learnt,
-  advance-reads.Asked,
-  advance-reads.Learnt,
-  used-reads.Asked,
-  used-reads.Learnt,
-  bracket-below t,
-  bracket.Post,
-) (factor-at t) factor.Post
-factor-advance-requires-2 t c κs = ?
-
--- src/expression.rt:32:38
-factor-enum-told-2 : (t : ℕ) → factor-lts.Need-enum-told-2 (
-  operand-reads.Asked,
-  operand-reads.Learnt,
-  emitted-reads.Asked,
-  emitted-reads.Learnt,
-  advance-reads.Asked,
-  advance-reads.Learnt,
-  used-reads.Asked,
-  used-reads.Learnt,
-  bracket-below t,
-  bracket.Post,
-) (factor-at t) factor.Post
-factor-enum-told-2 t c = ?
-
--- src/expression.rt:33:36
-factor-enum-told-3 : (t : ℕ) → factor-lts.Need-enum-told-3 (
-  operand-reads.Asked,
-  operand-reads.Learnt,
-  emitted-reads.Asked,
-  emitted-reads.Learnt,
-  advance-reads.Asked,
-  advance-reads.Learnt,
-  used-reads.Asked,
-  used-reads.Learnt,
-  bracket-below t,
-  bracket.Post,
-) (factor-at t) factor.Post
-factor-enum-told-3 t c = ?
-
--- src/expression.rt:34:21
-factor-enum-known-kind-2 : (t : ℕ) → factor-lts.Need-enum-known-kind-2 (
-  operand-reads.Asked,
-  operand-reads.Learnt,
-  emitted-reads.Asked,
-  emitted-reads.Learnt,
-  advance-reads.Asked,
-  advance-reads.Learnt,
-  used-reads.Asked,
-  used-reads.Learnt,
-  bracket-below t,
-  bracket.Post,
-) (factor-at t) factor.Post
-factor-enum-known-kind-2 t c = ?
-
--- src/expression.rt:36:17
-factor-returns : (t : ℕ) → factor-lts.Need-returns (
-  operand-reads.Asked,
-  operand-reads.Learnt,
-  emitted-reads.Asked,
-  emitted-reads.Learnt,
-  advance-reads.Asked,
-  advance-reads.Learnt,
-  used-reads.Asked,
-  used-reads.Learnt,
-  bracket-below t,
-  bracket.Post,
-) (factor-at t) factor.Post
-factor-returns t c = ?
-
--- src/expression.rt:39:17
-factor-returns-2 : (t : ℕ) → factor-lts.Need-returns-2 (
-  operand-reads.Asked,
-  operand-reads.Learnt,
-  emitted-reads.Asked,
-  emitted-reads.Learnt,
-  advance-reads.Asked,
-  advance-reads.Learnt,
-  used-reads.Asked,
-  used-reads.Learnt,
-  bracket-below t,
-  bracket.Post,
-) (factor-at t) factor.Post
-factor-returns-2 t c = ?
-
--- src/expression.rt:41:44
-factor-sub-bracket : (t : ℕ) → factor-lts.Need-sub-bracket (
-  operand-reads.Asked,
-  operand-reads.Learnt,
-  emitted-reads.Asked,
-  emitted-reads.Learnt,
-  advance-reads.Asked,
-  advance-reads.Learnt,
-  used-reads.Asked,
-  used-reads.Learnt,
-  bracket-below t,
-  bracket.Post,
-) (factor-at t) factor.Post
-factor-sub-bracket t c = ?
-
--- src/expression.rt:41:13
-factor-bracket-requires : (t : ℕ) → factor-lts.Need-bracket-requires (
-  operand-reads.Asked,
-  operand-reads.Learnt,
-  emitted-reads.Asked,
-  emitted-reads.Learnt,
-  advance-reads.Asked,
-  advance-reads.Learnt,
-  used-reads.Asked,
-  used-reads.Learnt,
-  bracket-below t,
-  bracket.Post,
-) (factor-at t) factor.Post
-factor-bracket-requires t c κs = ?
-
--- src/expression.rt:17:1
-factor-same-length : (t : ℕ) → factor-lts.Need-same-length (
-  operand-reads.Asked,
-  operand-reads.Learnt,
-  emitted-reads.Asked,
-  emitted-reads.Learnt,
-  advance-reads.Asked,
-  advance-reads.Learnt,
-  used-reads.Asked,
-  used-reads.Learnt,
-  bracket-below t,
-  bracket.Post,
-) (factor-at t) factor.Post
-factor-same-length t c = ?
-
--- src/expression.rt:17:1
-factor-returns-3 : (t : ℕ) → factor-lts.Need-returns-3 (
-  operand-reads.Asked,
-  operand-reads.Learnt,
-  emitted-reads.Asked,
-  emitted-reads.Learnt,
-  advance-reads.Asked,
-  advance-reads.Learnt,
-  used-reads.Asked,
-  used-reads.Learnt,
-  bracket-below t,
-  bracket.Post,
-) (factor-at t) factor.Post
-factor-returns-3 t c = ?
-
--- src/expression.rt:17:1
-factor-same-length-2 : (t : ℕ) → factor-lts.Need-same-length-2 (
-  operand-reads.Asked,
-  operand-reads.Learnt,
-  emitted-reads.Asked,
-  emitted-reads.Learnt,
-  advance-reads.Asked,
-  advance-reads.Learnt,
-  used-reads.Asked,
-  used-reads.Learnt,
-  bracket-below t,
-  bracket.Post,
-) (factor-at t) factor.Post
-factor-same-length-2 t c = ?
-
--- src/expression.rt:17:1
-factor-returns-4 : (t : ℕ) → factor-lts.Need-returns-4 (
-  operand-reads.Asked,
-  operand-reads.Learnt,
-  emitted-reads.Asked,
-  emitted-reads.Learnt,
-  advance-reads.Asked,
-  advance-reads.Learnt,
-  used-reads.Asked,
-  used-reads.Learnt,
-  bracket-below t,
-  bracket.Post,
-) (factor-at t) factor.Post
-factor-returns-4 t c = ?
-
--- src/expression.rt:17:1
-factor-returns-5 : (t : ℕ) → factor-lts.Need-returns-5 (
-  operand-reads.Asked,
-  operand-reads.Learnt,
-  emitted-reads.Asked,
-  emitted-reads.Learnt,
-  advance-reads.Asked,
-  advance-reads.Learnt,
-  used-reads.Asked,
-  used-reads.Learnt,
-  bracket-below t,
-  bracket.Post,
-) (factor-at t) factor.Post
-factor-returns-5 t c = ?
-
--- src/expression.rt:17:1
-factor-returns-6 : (t : ℕ) → factor-lts.Need-returns-6 (
-  operand-reads.Asked,
-  operand-reads.Learnt,
-  emitted-reads.Asked,
-  emitted-reads.Learnt,
-  advance-reads.Asked,
-  advance-reads.Learnt,
-  used-reads.Asked,
-  used-reads.Learnt,
-  bracket-below t,
-  bracket.Post,
-) (factor-at t) factor.Post
-factor-returns-6 t c = ?
-
--- src/expression.rt:17:1
-factor-same-length-3 : (t : ℕ) → factor-lts.Need-same-length-3 (
-  operand-reads.Asked,
-  operand-reads.Learnt,
-  emitted-reads.Asked,
-  emitted-reads.Learnt,
-  advance-reads.Asked,
-  advance-reads.Learnt,
-  used-reads.Asked,
-  used-reads.Learnt,
-  bracket-below t,
-  bracket.Post,
-) (factor-at t) factor.Post
-factor-same-length-3 t c = ?
-
--- src/expression.rt:17:1
-factor-returns-7 : (t : ℕ) → factor-lts.Need-returns-7 (
-  operand-reads.Asked,
-  operand-reads.Learnt,
-  emitted-reads.Asked,
-  emitted-reads.Learnt,
-  advance-reads.Asked,
-  advance-reads.Learnt,
-  used-reads.Asked,
-  used-reads.Learnt,
-  bracket-below t,
-  bracket.Post,
-) (factor-at t) factor.Post
-factor-returns-7 t c = ?
-
--- src/expression.rt:96:9
-first-term-fixed-ahead-requires : (t : ℕ) → first-term-lts.Need-fixed-ahead-requires (
-  fixed-ahead-reads.Asked,
-  fixed-ahead-reads.Learnt,
-  is-sign-reads.Asked,
-  is-sign-reads.Learnt,
-  term-below t,
-  term.Post,
-  advance-reads.Asked,
-  advance-reads.Learnt,
-  emitted-reads.Asked,
-  emitted-reads.Learnt,
-) (first-term-at t) first-term.Post
-first-term-fixed-ahead-requires t c κs = ?
-
--- src/expression.rt:97:9
-first-term-is-sign-requires : (t : ℕ) → first-term-lts.Need-is-sign-requires (
-  fixed-ahead-reads.Asked,
-  fixed-ahead-reads.Learnt,
-  is-sign-reads.Asked,
-  is-sign-reads.Learnt,
-  term-below t,
-  term.Post,
-  advance-reads.Asked,
-  advance-reads.Learnt,
-  emitted-reads.Asked,
-  emitted-reads.Learnt,
-) (first-term-at t) first-term.Post
-first-term-is-sign-requires t c κs = ?
-
--- src/expression.rt:98:9
-first-term-term-requires : (t : ℕ) → first-term-lts.Need-term-requires (
-  fixed-ahead-reads.Asked,
-  fixed-ahead-reads.Learnt,
-  is-sign-reads.Asked,
-  is-sign-reads.Learnt,
-  term-below t,
-  term.Post,
-  advance-reads.Asked,
-  advance-reads.Learnt,
-  emitted-reads.Asked,
-  emitted-reads.Learnt,
-) (first-term-at t) first-term.Post
-first-term-term-requires t c κs = ?
-
--- src/expression.rt:98:9
-first-term-same-length : (t : ℕ) → first-term-lts.Need-same-length (
-  fixed-ahead-reads.Asked,
-  fixed-ahead-reads.Learnt,
-  is-sign-reads.Asked,
-  is-sign-reads.Learnt,
-  term-below t,
-  term.Post,
-  advance-reads.Asked,
-  advance-reads.Learnt,
-  emitted-reads.Asked,
-  emitted-reads.Learnt,
-) (first-term-at t) first-term.Post
-first-term-same-length t c = ?
-
--- src/expression.rt:98:9
-first-term-returns : (t : ℕ) → first-term-lts.Need-returns (
-  fixed-ahead-reads.Asked,
-  fixed-ahead-reads.Learnt,
-  is-sign-reads.Asked,
-  is-sign-reads.Learnt,
-  term-below t,
-  term.Post,
-  advance-reads.Asked,
-  advance-reads.Learnt,
-  emitted-reads.Asked,
-  emitted-reads.Learnt,
-) (first-term-at t) first-term.Post
-first-term-returns t c = ?
-
--- src/expression.rt:100:9
-first-term-advance-requires : (t : ℕ) → first-term-lts.Need-advance-requires (
-  fixed-ahead-reads.Asked,
-  fixed-ahead-reads.Learnt,
-  is-sign-reads.Asked,
-  is-sign-reads.Learnt,
-  term-below t,
-  term.Post,
-  advance-reads.Asked,
-  advance-reads.Learnt,
-  emitted-reads.Asked,
-  emitted-reads.Learnt,
-) (first-term-at t) first-term.Post
-first-term-advance-requires t c κs = ?
-
--- src/expression.rt:101:20
-first-term-enum-known-a : (t : ℕ) → first-term-lts.Need-enum-known-a (
-  fixed-ahead-reads.Asked,
-  fixed-ahead-reads.Learnt,
-  is-sign-reads.Asked,
-  is-sign-reads.Learnt,
-  term-below t,
-  term.Post,
-  advance-reads.Asked,
-  advance-reads.Learnt,
-  emitted-reads.Asked,
-  emitted-reads.Learnt,
-) (first-term-at t) first-term.Post
-first-term-enum-known-a t c = ?
-
--- src/expression.rt:102:9
-first-term-enum-told : (t : ℕ) → first-term-lts.Need-enum-told (
-  fixed-ahead-reads.Asked,
-  fixed-ahead-reads.Learnt,
-  is-sign-reads.Asked,
-  is-sign-reads.Learnt,
-  term-below t,
-  term.Post,
-  advance-reads.Asked,
-  advance-reads.Learnt,
-  emitted-reads.Asked,
-  emitted-reads.Learnt,
-) (first-term-at t) first-term.Post
-first-term-enum-told t c = ?
-
--- src/expression.rt:102:9
-first-term-returns-2 : (t : ℕ) → first-term-lts.Need-returns-2 (
-  fixed-ahead-reads.Asked,
-  fixed-ahead-reads.Learnt,
-  is-sign-reads.Asked,
-  is-sign-reads.Learnt,
-  term-below t,
-  term.Post,
-  advance-reads.Asked,
-  advance-reads.Learnt,
-  emitted-reads.Asked,
-  emitted-reads.Learnt,
-) (first-term-at t) first-term.Post
-first-term-returns-2 t c = ?
-
--- src/expression.rt:104:9
-first-term-term-requires-2 : (t : ℕ) → first-term-lts.Need-term-requires-2 (
-  fixed-ahead-reads.Asked,
-  fixed-ahead-reads.Learnt,
-  is-sign-reads.Asked,
-  is-sign-reads.Learnt,
-  term-below t,
-  term.Post,
-  advance-reads.Asked,
-  advance-reads.Learnt,
-  emitted-reads.Asked,
-  emitted-reads.Learnt,
-) (first-term-at t) first-term.Post
-first-term-term-requires-2 t c κs = ?
-
--- src/expression.rt:105:20
-first-term-enum-known-r : (t : ℕ) → first-term-lts.Need-enum-known-r (
-  fixed-ahead-reads.Asked,
-  fixed-ahead-reads.Learnt,
-  is-sign-reads.Asked,
-  is-sign-reads.Learnt,
-  term-below t,
-  term.Post,
-  advance-reads.Asked,
-  advance-reads.Learnt,
-  emitted-reads.Asked,
-  emitted-reads.Learnt,
-) (first-term-at t) first-term.Post
-first-term-enum-known-r t c = ?
-
--- src/expression.rt:106:9
-first-term-enum-told-2 : (t : ℕ) → first-term-lts.Need-enum-told-2 (
-  fixed-ahead-reads.Asked,
-  fixed-ahead-reads.Learnt,
-  is-sign-reads.Asked,
-  is-sign-reads.Learnt,
-  term-below t,
-  term.Post,
-  advance-reads.Asked,
-  advance-reads.Learnt,
-  emitted-reads.Asked,
-  emitted-reads.Learnt,
-) (first-term-at t) first-term.Post
-first-term-enum-told-2 t c = ?
-
--- src/expression.rt:106:9
-first-term-same-length-2 : (t : ℕ) → first-term-lts.Need-same-length-2 (
-  fixed-ahead-reads.Asked,
-  fixed-ahead-reads.Learnt,
-  is-sign-reads.Asked,
-  is-sign-reads.Learnt,
-  term-below t,
-  term.Post,
-  advance-reads.Asked,
-  advance-reads.Learnt,
-  emitted-reads.Asked,
-  emitted-reads.Learnt,
-) (first-term-at t) first-term.Post
-first-term-same-length-2 t c = ?
-
--- src/expression.rt:106:9
-first-term-returns-3 : (t : ℕ) → first-term-lts.Need-returns-3 (
-  fixed-ahead-reads.Asked,
-  fixed-ahead-reads.Learnt,
-  is-sign-reads.Asked,
-  is-sign-reads.Learnt,
-  term-below t,
-  term.Post,
-  advance-reads.Asked,
-  advance-reads.Learnt,
-  emitted-reads.Asked,
-  emitted-reads.Learnt,
-) (first-term-at t) first-term.Post
-first-term-returns-3 t c = ?
-
--- src/expression.rt:109:27
-first-term-emitted-requires : (t : ℕ) → first-term-lts.Need-emitted-requires (
-  fixed-ahead-reads.Asked,
-  fixed-ahead-reads.Learnt,
-  is-sign-reads.Asked,
-  is-sign-reads.Learnt,
-  term-below t,
-  term.Post,
-  advance-reads.Asked,
-  advance-reads.Learnt,
-  emitted-reads.Asked,
-  emitted-reads.Learnt,
-) (first-term-at t) first-term.Post
-first-term-emitted-requires t c κs = ?
-
--- src/expression.rt:109:9
-first-term-same-length-3 : (t : ℕ) → first-term-lts.Need-same-length-3 (
-  fixed-ahead-reads.Asked,
-  fixed-ahead-reads.Learnt,
-  is-sign-reads.Asked,
-  is-sign-reads.Learnt,
-  term-below t,
-  term.Post,
-  advance-reads.Asked,
-  advance-reads.Learnt,
-  emitted-reads.Asked,
-  emitted-reads.Learnt,
-) (first-term-at t) first-term.Post
-first-term-same-length-3 t c = ?
-
--- src/expression.rt:109:9
-first-term-returns-4 : (t : ℕ) → first-term-lts.Need-returns-4 (
-  fixed-ahead-reads.Asked,
-  fixed-ahead-reads.Learnt,
-  is-sign-reads.Asked,
-  is-sign-reads.Learnt,
-  term-below t,
-  term.Post,
-  advance-reads.Asked,
-  advance-reads.Learnt,
-  emitted-reads.Asked,
-  emitted-reads.Learnt,
-) (first-term-at t) first-term.Post
-first-term-returns-4 t c = ?
-
--- src/expression.rt:92:1
-first-term-same-length-4 : (t : ℕ) → first-term-lts.Need-same-length-4 (
-  fixed-ahead-reads.Asked,
-  fixed-ahead-reads.Learnt,
-  is-sign-reads.Asked,
-  is-sign-reads.Learnt,
-  term-below t,
-  term.Post,
-  advance-reads.Asked,
-  advance-reads.Learnt,
-  emitted-reads.Asked,
-  emitted-reads.Learnt,
-) (first-term-at t) first-term.Post
-first-term-same-length-4 t c = ?
-
--- src/expression.rt:92:1
-first-term-returns-5 : (t : ℕ) → first-term-lts.Need-returns-5 (
-  fixed-ahead-reads.Asked,
-  fixed-ahead-reads.Learnt,
-  is-sign-reads.Asked,
-  is-sign-reads.Learnt,
-  term-below t,
-  term.Post,
-  advance-reads.Asked,
-  advance-reads.Learnt,
-  emitted-reads.Asked,
-  emitted-reads.Learnt,
-) (first-term-at t) first-term.Post
-first-term-returns-5 t c = ?
+expression-μ-loop allow text names table₀ left₀ need₀ table left need = length text - left .next .place
+
+expression-first-term-requires : (t : ℕ) → expression-lts.Need-first-term-requires (expression-calls t) (expression-at t) expression.Post expression-Inv-loop expression-μ-loop
+expression-first-term-requires t c κs = search needs
+
+expression-enum-known-first : (t : ℕ) → expression-lts.Need-enum-known-first (expression-calls t) (expression-at t) expression.Post expression-Inv-loop expression-μ-loop
+expression-enum-known-first t c = search needs
+
+expression-enum-told : (t : ℕ) → expression-lts.Need-enum-told (expression-calls t) (expression-at t) expression.Post expression-Inv-loop expression-μ-loop
+expression-enum-told t c = search needs
+
+expression-same-length : (t : ℕ) → expression-lts.Need-same-length (expression-calls t) (expression-at t) expression.Post expression-Inv-loop expression-μ-loop
+expression-same-length t c = search needs
+
+expression-returns : (t : ℕ) → expression-lts.Need-returns (expression-calls t) (expression-at t) expression.Post expression-Inv-loop expression-μ-loop
+unfolding Reads
+expression-returns t c = rw (c .enum-told .given .1) ((rw (c .enum-told .given .1) at (c .before .before .before .first-term .ensures)))
+
+expression-loop-holds : (t : ℕ) → expression-lts.Need-loop-holds (expression-calls t) (expression-at t) expression.Post expression-Inv-loop expression-μ-loop
+expression-loop-holds t c = record { count = refl; on = λ before w g. g }
+
+-- the construct so far, in the loop
+expression-now : (t : ℕ) (c : expression-lts.At-loop (expression-calls t) (expression-at t) expression.Post expression-Inv-loop expression-μ-loop) → Got first-term-way (now (c .before .before .before .before .before .before .before .before .before .args .text)) (now (c .before .before .before .before .before .before .before .before .before .args .names)) (now (c .before .before .before .before .before .before .before .before .before .args .table)) (c .before .before .before .before .before .before .before .before .before .args .w) (c .before .before .before .before .before .before .before .before .before .args .allow) (now (c .before .before .before .before .before .before .before .before .before .args .names)) (c .loop .table) (c .loop .left) (record { need = c .loop .need })
+expression-now t c = c .loop .inv .on _ _ (got first-term-way (c .before .before .first .given .1) (c .before .before .before .before .before .first-term .ensures))
+
+expression-fixed-ahead-requires : (t : ℕ) → expression-lts.Need-fixed-ahead-requires (expression-calls t) (expression-at t) expression.Post expression-Inv-loop expression-μ-loop
+expression-fixed-ahead-requires t c κs = search needs
+
+expression-is-sign-requires : (t : ℕ) → expression-lts.Need-is-sign-requires (expression-calls t) (expression-at t) expression.Post expression-Inv-loop expression-μ-loop
+expression-is-sign-requires t c κs = search needs
+
+expression-same-length-2 : (t : ℕ) → expression-lts.Need-same-length-2 (expression-calls t) (expression-at t) expression.Post expression-Inv-loop expression-μ-loop
+expression-same-length-2 t c = search needs
+
+expression-returns-2 : (t : ℕ) → expression-lts.Need-returns-2 (expression-calls t) (expression-at t) expression.Post expression-Inv-loop expression-μ-loop
+expression-returns-2 t c = let g = expression-now t (c .before .before .before) in done expression-way refl (record { what = g .what; passed = expression-whole _ (g .what) (g .passed) (ap is-sign (sym (c .before .before .fixed-ahead .ensures)) ∙ sym (c .before .is-sign .ensures) ∙ flag-off _ (c .if1 .taken)); laid = g .laid })
+
+expression-advance-requires : (t : ℕ) → expression-lts.Need-advance-requires (expression-calls t) (expression-at t) expression.Post expression-Inv-loop expression-μ-loop
+expression-advance-requires t c κs = expression-now t (c .before .before .before) .passed .stands .within
+
+expression-enum-known-a : (t : ℕ) → expression-lts.Need-enum-known-a (expression-calls t) (expression-at t) expression.Post expression-Inv-loop expression-μ-loop
+expression-enum-known-a t c = search needs
+
+expression-enum-told-2 : (t : ℕ) → expression-lts.Need-enum-told-2 (expression-calls t) (expression-at t) expression.Post expression-Inv-loop expression-μ-loop
+expression-enum-told-2 t c = search needs
+
+expression-same-length-3 : (t : ℕ) → expression-lts.Need-same-length-3 (expression-calls t) (expression-at t) expression.Post expression-Inv-loop expression-μ-loop
+expression-same-length-3 t c = search needs
+
+expression-returns-3 : (t : ℕ) → expression-lts.Need-returns-3 (expression-calls t) (expression-at t) expression.Post expression-Inv-loop expression-μ-loop
+expression-returns-3 t c = stopped expression-way _ _ _ _ _ _ _ (c .enum-told2 .given .1) (right-lost expression-joins (expression-now t (c .before .before .before .before .before .before)) (c .before .before .before .before .before .fixed-ahead .ensures) (sym (c .before .before .before .before .is-sign .ensures) ∙ flag-on _ (c .before .before .before .if1 .left)) (unread _ _ _ (c .before .before .advance .ensures) (c .enum-told2 .given .1)))
+
+expression-term-requires : (t : ℕ) → expression-lts.Need-term-requires (expression-calls t) (expression-at t) expression.Post expression-Inv-loop expression-μ-loop
+expression-term-requires t c κs = (omega (arith, c .before .before .before .before .before .before .before .before .before .before .before .before .before .before .before .before .before .pre .0), (ready-past (ready-got (c .before .before .before .before .before .before .before .before .before .before .before .before .before .before .before .before .before .pre .1) (expression-now t (c .before .before .before .before .before .before .before .before))) _ (le-refl _) (past _ _ _ (c .before .before .before .before .advance .ensures) (c .before .before .a .given .1))))
+
+expression-enum-known-r : (t : ℕ) → expression-lts.Need-enum-known-r (expression-calls t) (expression-at t) expression.Post expression-Inv-loop expression-μ-loop
+expression-enum-known-r t c = search needs
+
+expression-enum-told-3 : (t : ℕ) → expression-lts.Need-enum-told-3 (expression-calls t) (expression-at t) expression.Post expression-Inv-loop expression-μ-loop
+expression-enum-told-3 t c = search needs
+
+expression-same-length-4 : (t : ℕ) → expression-lts.Need-same-length-4 (expression-calls t) (expression-at t) expression.Post expression-Inv-loop expression-μ-loop
+expression-same-length-4 t c = search needs
+
+expression-returns-4 : (t : ℕ) → expression-lts.Need-returns-4 (expression-calls t) (expression-at t) expression.Post expression-Inv-loop expression-μ-loop
+expression-returns-4 t c = stopped expression-way _ _ _ _ _ _ _ (c .enum-told3 .given .1) (right-refused expression-joins (expression-now t (c .before .before .before .before .before .before .before .before .before .before .before .before)) (c .before .before .before .before .before .before .before .before .before .before .before .fixed-ahead .ensures) (sym (c .before .before .before .before .before .before .before .before .before .before .is-sign .ensures) ∙ flag-on _ (c .before .before .before .before .before .before .before .before .before .if1 .left)) (past _ _ _ (c .before .before .before .before .before .before .before .before .advance .ensures) (c .before .before .before .before .before .before .a .given .1)) _ _ (barred term-way _ _ _ _ _ _ _ (c .enum-told3 .given .1) (c .before .before .before .term .ensures)))
+
+expression-operation-requires : (t : ℕ) → expression-lts.Need-operation-requires (expression-calls t) (expression-at t) expression.Post expression-Inv-loop expression-μ-loop
+expression-operation-requires t c κs = search needs
+
+expression-emitted-requires : (t : ℕ) → expression-lts.Need-emitted-requires (expression-calls t) (expression-at t) expression.Post expression-Inv-loop expression-μ-loop
+expression-emitted-requires t c κs = counts-got (ready-past (ready-got (c .before .before .before .before .before .before .before .before .before .before .before .before .before .before .before .before .before .before .before .before .before .before .before .before .pre .1) (expression-now t (c .before .before .before .before .before .before .before .before .before .before .before .before .before .before .before))) _ (le-refl _) (past _ _ _ (c .before .before .before .before .before .before .before .before .before .before .before .advance .ensures) (c .before .before .before .before .before .before .before .before .before .a .given .1))) (got term-way (c .before .before .before .r .given .1) (c .before .before .before .before .before .before .term .ensures)) .0
+
+expression-add-larger : (t : ℕ) → expression-lts.Need-add-larger (expression-calls t) (expression-at t) expression.Post expression-Inv-loop expression-μ-loop
+expression-add-larger t c = omega (arith, counts-got (ready-past (ready-got (c .before .before .before .before .before .before .before .before .before .before .before .before .before .before .before .before .before .before .before .before .before .before .before .before .before .before .before .pre .1) (expression-now t (c .before .before .before .before .before .before .before .before .before .before .before .before .before .before .before .before .before .before))) _ (le-refl _) (past _ _ _ (c .before .before .before .before .before .before .before .before .before .before .before .before .before .before .advance .ensures) (c .before .before .before .before .before .before .before .before .before .before .before .before .a .given .1))) (got term-way (c .before .before .before .before .before .before .r .given .1) (c .before .before .before .before .before .before .before .before .before .term .ensures)) .1)
+
+expression-larger-requires : (t : ℕ) → expression-lts.Need-larger-requires (expression-calls t) (expression-at t) expression.Post expression-Inv-loop expression-μ-loop
+expression-larger-requires t c κs = search needs
+
+expression-loop-less : (t : ℕ) → expression-lts.Need-loop-less (expression-calls t) (expression-at t) expression.Post expression-Inv-loop expression-μ-loop
+unfolding one-more
+expression-loop-less t c = rw (c .before .before .before .emitted .ensures .0) (omega (arith, right-later expression-joins (expression-now t (c .before .before .before .before .before .before .before .before .before .before .before .before .before .before .before .before .before .before .before)) (c .before .before .before .before .before .before .before .before .before .before .before .before .before .before .before .before .before .before .fixed-ahead .ensures) (sym (c .before .before .before .before .before .before .before .before .before .before .before .before .before .before .before .before .before .is-sign .ensures) ∙ flag-on _ (c .before .before .before .before .before .before .before .before .before .before .before .before .before .before .before .before .if1 .left)) (past _ _ _ (c .before .before .before .before .before .before .before .before .before .before .before .before .before .before .before .advance .ensures) (c .before .before .before .before .before .before .before .before .before .before .before .before .before .a .given .1)) (got term-way (c .before .before .before .before .before .before .before .r .given .1) (c .before .before .before .before .before .before .before .before .before .before .term .ensures)) .0, right-later expression-joins (expression-now t (c .before .before .before .before .before .before .before .before .before .before .before .before .before .before .before .before .before .before .before)) (c .before .before .before .before .before .before .before .before .before .before .before .before .before .before .before .before .before .before .fixed-ahead .ensures) (sym (c .before .before .before .before .before .before .before .before .before .before .before .before .before .before .before .before .before .is-sign .ensures) ∙ flag-on _ (c .before .before .before .before .before .before .before .before .before .before .before .before .before .before .before .before .if1 .left)) (past _ _ _ (c .before .before .before .before .before .before .before .before .before .before .before .before .before .before .before .advance .ensures) (c .before .before .before .before .before .before .before .before .before .before .before .before .before .a .given .1)) (got term-way (c .before .before .before .before .before .before .before .r .given .1) (c .before .before .before .before .before .before .before .before .before .before .term .ensures)) .1 .order, right-later expression-joins (expression-now t (c .before .before .before .before .before .before .before .before .before .before .before .before .before .before .before .before .before .before .before)) (c .before .before .before .before .before .before .before .before .before .before .before .before .before .before .before .before .before .before .fixed-ahead .ensures) (sym (c .before .before .before .before .before .before .before .before .before .before .before .before .before .before .before .before .before .is-sign .ensures) ∙ flag-on _ (c .before .before .before .before .before .before .before .before .before .before .before .before .before .before .before .before .if1 .left)) (past _ _ _ (c .before .before .before .before .before .before .before .before .before .before .before .before .before .before .before .advance .ensures) (c .before .before .before .before .before .before .before .before .before .before .before .before .before .a .given .1)) (got term-way (c .before .before .before .before .before .before .before .r .given .1) (c .before .before .before .before .before .before .before .before .before .before .term .ensures)) .1 .within))
+
+expression-loop-again : (t : ℕ) → expression-lts.Need-loop-again (expression-calls t) (expression-at t) expression.Post expression-Inv-loop expression-μ-loop
+expression-loop-again t c = rw (c .before .before .before .emitted .ensures .0, c .before .before .before .emitted .ensures .1, toZ-ofZ (record { sfits = c .before .before .before .before .operation .ok }), c .before .before .before .before .operation .ensures, c .larger .ensures) (round-on expression-joins (c .before .before .before .before .before .before .before .before .before .before .before .before .before .before .before .before .before .before .before .loop .inv) (c .before .before .before .before .before .before .before .before .before .before .before .before .before .before .before .before .before .before .fixed-ahead .ensures) (sym (c .before .before .before .before .before .before .before .before .before .before .before .before .before .before .before .before .before .is-sign .ensures) ∙ flag-on _ (c .before .before .before .before .before .before .before .before .before .before .before .before .before .before .before .before .if1 .left)) (past _ _ _ (c .before .before .before .before .before .before .before .before .before .before .before .before .before .before .before .advance .ensures) (c .before .before .before .before .before .before .before .before .before .before .before .before .before .a .given .1)) (got term-way (c .before .before .before .before .before .before .before .r .given .1) (c .before .before .before .before .before .before .before .before .before .before .term .ensures)) (c .before .before .before .before .before .before .before .before .before .before .term .kept .1 .1 .1 .0))
+
+factor-enum-known-kind : (t : ℕ) → factor-lts.Need-enum-known-kind (factor-calls t) (factor-at t) factor.Post
+factor-enum-known-kind t c = search needs
+
+factor-cast-operand : (t : ℕ) → factor-lts.Need-cast-operand (factor-calls t) (factor-at t) factor.Post
+factor-cast-operand t c = search needs
+
+factor-operand-requires : (t : ℕ) → factor-lts.Need-operand-requires (factor-calls t) (factor-at t) factor.Post
+factor-operand-requires t c κs = search needs
+
+factor-emitted-requires : (t : ℕ) → factor-lts.Need-emitted-requires (factor-calls t) (factor-at t) factor.Post
+factor-emitted-requires t c κs = code-fits (c .before .before .before .before .before .before .before .before .pre .1)
+
+factor-advance-requires : (t : ℕ) → factor-lts.Need-advance-requires (factor-calls t) (factor-at t) factor.Post
+unfolding one-more
+factor-advance-requires t c κs = rw (c .before .emitted .ensures .0) (c .before .before .before .before .before .before .before .before .before .before .pre .1 .stands .within)
+
+factor-enum-told : (t : ℕ) → factor-lts.Need-enum-told (factor-calls t) (factor-at t) factor.Post
+factor-enum-told t c = search needs
+
+factor-used-requires : (t : ℕ) → factor-lts.Need-used-requires (factor-calls t) (factor-at t) factor.Post
+factor-used-requires t c κs = code-fits (c .before .before .before .before .before .before .pre .1)
+
+factor-advance-requires-2 : (t : ℕ) → factor-lts.Need-advance-requires-2 (factor-calls t) (factor-at t) factor.Post
+unfolding one-more
+factor-advance-requires-2 t c κs = rw (c .before .used .ensures .0, noted-is) (c .before .before .before .before .before .before .before .before .pre .1 .stands .within)
+
+factor-enum-told-2 : (t : ℕ) → factor-lts.Need-enum-told-2 (factor-calls t) (factor-at t) factor.Post
+factor-enum-told-2 t c = search needs
+
+factor-enum-told-3 : (t : ℕ) → factor-lts.Need-enum-told-3 (factor-calls t) (factor-at t) factor.Post
+factor-enum-told-3 t c = search needs
+
+factor-enum-known-kind-2 : (t : ℕ) → factor-lts.Need-enum-known-kind-2 (factor-calls t) (factor-at t) factor.Post
+factor-enum-known-kind-2 t c = search needs
+
+factor-returns : (t : ℕ) → factor-lts.Need-returns (factor-calls t) (factor-at t) factor.Post
+unfolding Reads code-of
+factor-returns t c = no-factor (c .before .before .before .before .before .before .before .pre .1 .stands) _ (fixed-none (c .before .before .kind2 .given .1) .0) (fixed-none (c .before .before .kind2 .given .1) .1) (λ e. c .if1 .taken (sym (fixed-is (c .before .before .kind2 .given .1)) ∙ e))
+
+factor-returns-2 : (t : ℕ) → factor-lts.Need-returns-2 (factor-calls t) (factor-at t) factor.Post
+unfolding Reads code-of
+factor-returns-2 t c = bracket-too-deep (c .before .before .before .before .before .before .before .before .pre .1 .stands) _ (fixed-is (c .before .before .before .kind2 .given .1) ∙ c .before .if1 .left) (c .if2 .taken)
+
+factor-sub-bracket : (t : ℕ) → factor-lts.Need-sub-bracket (factor-calls t) (factor-at t) factor.Post
+factor-sub-bracket t c = search needs
+
+factor-bracket-requires : (t : ℕ) → factor-lts.Need-bracket-requires (factor-calls t) (factor-at t) factor.Post
+factor-bracket-requires t c κs = (omega (arith, c .before .before .before .before .before .before .before .before .before .pre .0, c .before .if2 .left), (one-allowed (c .before .before .before .before .before .before .before .before .before .pre .1) (c .before .if2 .left), fixed-is (c .before .before .before .before .kind2 .given .1) ∙ c .before .before .if1 .left))
+
+factor-same-length : (t : ℕ) → factor-lts.Need-same-length (factor-calls t) (factor-at t) factor.Post
+factor-same-length t c = search needs
+
+factor-returns-3 : (t : ℕ) → factor-lts.Need-returns-3 (factor-calls t) (factor-at t) factor.Post
+factor-returns-3 t c = literal-read _ (c .before .before .before .before .before .before .before .before .before .before .before .pre .1) (c .before .before .before .before .before .before .kind .given .1) (c .before .before .emitted .ensures .0) (toZ-ofZ (record { sfits = c .before .before .before .operand .ok }) ∙ c .before .before .before .operand .ensures) (c .before .before .emitted .ensures .1) _ (c .advance .ensures)
+
+factor-same-length-2 : (t : ℕ) → factor-lts.Need-same-length-2 (factor-calls t) (factor-at t) factor.Post
+factor-same-length-2 t c = search needs
+
+factor-returns-4 : (t : ℕ) → factor-lts.Need-returns-4 (factor-calls t) (factor-at t) factor.Post
+factor-returns-4 t c = variable-read _ (c .before .before .before .before .before .before .before .before .before .pre .1) (c .before .before .before .before .enum-told .given .1) (c .before .before .used .ensures .0) (c .before .before .used .ensures .1) _ (c .advance2 .ensures)
+
+factor-returns-5 : (t : ℕ) → factor-lts.Need-returns-5 (factor-calls t) (factor-at t) factor.Post
+unfolding Reads
+factor-returns-5 t c = no-factor (c .before .before .before .before .before .pre .1 .stands) _ (class-none (c .enum-told2 .given .1) .0) (class-none (c .enum-told2 .given .1) .1) (class-number (c .enum-told2 .given .1))
+
+factor-returns-6 : (t : ℕ) → factor-lts.Need-returns-6 (factor-calls t) (factor-at t) factor.Post
+unfolding Reads
+factor-returns-6 t c = no-factor (c .before .before .before .before .before .pre .1 .stands) _ (string-none (c .enum-told3 .given .1) .0) (string-none (c .enum-told3 .given .1) .1) (string-number (c .enum-told3 .given .1))
+
+factor-same-length-3 : (t : ℕ) → factor-lts.Need-same-length-3 (factor-calls t) (factor-at t) factor.Post
+factor-same-length-3 t c = search needs
+
+factor-returns-7 : (t : ℕ) → factor-lts.Need-returns-7 (factor-calls t) (factor-at t) factor.Post
+factor-returns-7 t c = one-read _ _ _ _ _ _ _ _ (c .before .before .before .if2 .left) (c .before .bracket .ensures)
+
+first-term-fixed-ahead-requires : (t : ℕ) → first-term-lts.Need-fixed-ahead-requires (first-term-calls t) (first-term-at t) first-term.Post
+first-term-fixed-ahead-requires t c κs = search needs
+
+first-term-is-sign-requires : (t : ℕ) → first-term-lts.Need-is-sign-requires (first-term-calls t) (first-term-at t) first-term.Post
+first-term-is-sign-requires t c κs = search needs
+
+first-term-term-requires : (t : ℕ) → first-term-lts.Need-term-requires (first-term-calls t) (first-term-at t) first-term.Post
+first-term-term-requires t c κs = search needs
+
+first-term-same-length : (t : ℕ) → first-term-lts.Need-same-length (first-term-calls t) (first-term-at t) first-term.Post
+first-term-same-length t c = search needs
+
+first-term-returns : (t : ℕ) → first-term-lts.Need-returns (first-term-calls t) (first-term-at t) first-term.Post
+first-term-returns t c = handed-on (unsigned-leads (c .before .before .before .before .before .before .before .before .pre .1 .stands) _ (ap is-sign (sym (c .before .before .before .before .before .fixed-ahead .ensures)) ∙ sym (c .before .before .before .before .is-sign .ensures) ∙ flag-off _ (c .before .before .before .if1 .taken))) (λ x v g l. lays-unsigned l) _ (c .before .term .ensures)
+
+first-term-advance-requires : (t : ℕ) → first-term-lts.Need-advance-requires (first-term-calls t) (first-term-at t) first-term.Post
+first-term-advance-requires t c κs = c .before .before .before .before .before .pre .1 .stands .within
+
+first-term-enum-known-a : (t : ℕ) → first-term-lts.Need-enum-known-a (first-term-calls t) (first-term-at t) first-term.Post
+first-term-enum-known-a t c = search needs
+
+first-term-enum-told : (t : ℕ) → first-term-lts.Need-enum-told (first-term-calls t) (first-term-at t) first-term.Post
+first-term-enum-told t c = search needs
+
+first-term-returns-2 : (t : ℕ) → first-term-lts.Need-returns-2 (first-term-calls t) (first-term-at t) first-term.Post
+first-term-returns-2 t c = stopped first-term-way _ _ _ _ _ _ _ (c .enum-told .given .1) (lost-first first-term-way _ _ _ (sign-ahead (c .before .before .before .before .before .before .before .before .pre .1) (c .before .before .before .before .before .fixed-ahead .ensures) (sym (c .before .before .before .before .is-sign .ensures) ∙ flag-on _ (c .before .before .before .if1 .left)) .goes) (unread _ _ _ (c .before .before .advance .ensures) (c .enum-told .given .1)))
+
+first-term-term-requires-2 : (t : ℕ) → first-term-lts.Need-term-requires-2 (first-term-calls t) (first-term-at t) first-term.Post
+first-term-term-requires-2 t c κs = (omega arith, ready-past (c .before .before .before .before .before .before .before .before .before .before .pre .1) _ (le-refl _) (past _ _ _ (c .before .before .before .before .advance .ensures) (c .before .before .a .given .1)))
+
+first-term-enum-known-r : (t : ℕ) → first-term-lts.Need-enum-known-r (first-term-calls t) (first-term-at t) first-term.Post
+first-term-enum-known-r t c = search needs
+
+first-term-enum-told-2 : (t : ℕ) → first-term-lts.Need-enum-told-2 (first-term-calls t) (first-term-at t) first-term.Post
+first-term-enum-told-2 t c = search needs
+
+first-term-same-length-2 : (t : ℕ) → first-term-lts.Need-same-length-2 (first-term-calls t) (first-term-at t) first-term.Post
+first-term-same-length-2 t c = search needs
+
+first-term-returns-3 : (t : ℕ) → first-term-lts.Need-returns-3 (first-term-calls t) (first-term-at t) first-term.Post
+first-term-returns-3 t c = stopped first-term-way _ _ _ _ _ _ _ (c .enum-told2 .given .1) (signed-leads (c .before .before .before .before .before .before .before .before .before .before .before .before .before .before .pre .1 .stands) _ (sign-ahead (c .before .before .before .before .before .before .before .before .before .before .before .before .before .before .pre .1) (c .before .before .before .before .before .before .before .before .before .before .before .fixed-ahead .ensures) (sym (c .before .before .before .before .before .before .before .before .before .before .is-sign .ensures) ∙ flag-on _ (c .before .before .before .before .before .before .before .before .before .if1 .left))) (past _ _ _ (c .before .before .before .before .before .before .before .before .advance .ensures) (c .before .before .before .before .before .before .a .given .1) .follows) .refuses _ _ (barred term-way _ _ _ _ _ _ _ (c .enum-told2 .given .1) (c .before .before .before .term2 .ensures)))
+
+first-term-emitted-requires : (t : ℕ) → first-term-lts.Need-emitted-requires (first-term-calls t) (first-term-at t) first-term.Post
+first-term-emitted-requires t c κs = counts-got (ready-past (c .before .before .before .before .before .before .before .before .before .before .before .before .before .before .before .before .before .pre .1) _ (le-refl _) (past _ _ _ (c .before .before .before .before .before .before .before .before .before .before .before .advance .ensures) (c .before .before .before .before .before .before .before .before .before .a .given .1))) (got term-way (c .before .before .before .r .given .1) (c .before .before .before .before .before .before .term2 .ensures)) .0
+
+first-term-same-length-3 : (t : ℕ) → first-term-lts.Need-same-length-3 (first-term-calls t) (first-term-at t) first-term.Post
+first-term-same-length-3 t c = search needs
+
+first-term-returns-4 : (t : ℕ) → first-term-lts.Need-returns-4 (first-term-calls t) (first-term-at t) first-term.Post
+first-term-returns-4 t c = done first-term-way refl (rw (c .before .emitted .ensures .0, c .before .emitted .ensures .1) (minus-got (c .before .before .before .before .before .before .before .before .before .before .before .before .before .before .before .before .before .before .before .pre .1) (sign-ahead (c .before .before .before .before .before .before .before .before .before .before .before .before .before .before .before .before .before .before .before .pre .1) (c .before .before .before .before .before .before .before .before .before .before .before .before .before .before .before .before .fixed-ahead .ensures) (sym (c .before .before .before .before .before .before .before .before .before .before .before .before .before .before .before .is-sign .ensures) ∙ flag-on _ (c .before .before .before .before .before .before .before .before .before .before .before .before .before .before .if1 .left))) (past _ _ _ (c .before .before .before .before .before .before .before .before .before .before .before .before .before .advance .ensures) (c .before .before .before .before .before .before .before .before .before .before .before .a .given .1)) (got term-way (c .before .before .before .before .before .r .given .1) (c .before .before .before .before .before .before .before .before .term2 .ensures)) (sym (c .before .before .before .before .before .before .before .before .before .before .before .before .before .before .before .before .fixed-ahead .ensures) ∙ c .before .before .before .if2 .taken)))
+
+first-term-same-length-4 : (t : ℕ) → first-term-lts.Need-same-length-4 (first-term-calls t) (first-term-at t) first-term.Post
+first-term-same-length-4 t c = search needs
+
+first-term-returns-5 : (t : ℕ) → first-term-lts.Need-returns-5 (first-term-calls t) (first-term-at t) first-term.Post
+first-term-returns-5 t c = done first-term-way refl (plus-got (c .before .before .before .before .before .before .before .before .before .before .before .before .before .before .before .before .pre .1) (sign-ahead (c .before .before .before .before .before .before .before .before .before .before .before .before .before .before .before .before .pre .1) (c .before .before .before .before .before .before .before .before .before .before .before .before .before .fixed-ahead .ensures) (sym (c .before .before .before .before .before .before .before .before .before .before .before .before .is-sign .ensures) ∙ flag-on _ (c .before .before .before .before .before .before .before .before .before .before .before .if1 .left))) (past _ _ _ (c .before .before .before .before .before .before .before .before .before .before .advance .ensures) (c .before .before .before .before .before .before .before .before .a .given .1)) (got term-way (c .before .before .r .given .1) (c .before .before .before .before .before .term2 .ensures)) (λ z. c .if2 .left (c .before .before .before .before .before .before .before .before .before .before .before .before .before .fixed-ahead .ensures ∙ z)))
 
 abbrev term-Inv-loop : term-lts.InvT-loop
-term-Inv-loop text names table₀ allow left₀ need₀ table left need = ?
+term-Inv-loop allow text names table₀ left₀ need₀ table left need = Rounds term-so-far text names table₀ allow left₀ need₀ table left need
 
 abbrev term-μ-loop : term-lts.MeasureT-loop
-term-μ-loop text names table₀ allow left₀ need₀ table left need = ?
+term-μ-loop allow text names table₀ left₀ need₀ table left need = length text - left .next .place
 
--- src/expression.rt:67:9
-term-factor-requires : (t : ℕ) → term-lts.Need-factor-requires (
-  factor-below t,
-  factor.Post,
-  fixed-ahead-reads.Asked,
-  fixed-ahead-reads.Learnt,
-  is-mul-reads.Asked,
-  is-mul-reads.Learnt,
-  advance-reads.Asked,
-  advance-reads.Learnt,
-  operation-reads.Asked,
-  operation-reads.Learnt,
-  emitted-reads.Asked,
-  emitted-reads.Learnt,
-  larger-reads.Asked,
-  larger-reads.Learnt,
-) (term-at t) term.Post term-Inv-loop term-μ-loop
-term-factor-requires t c κs = ?
+term-factor-requires : (t : ℕ) → term-lts.Need-factor-requires (term-calls t) (term-at t) term.Post term-Inv-loop term-μ-loop
+term-factor-requires t c κs = search needs
 
--- src/expression.rt:68:20
-term-enum-known-first : (t : ℕ) → term-lts.Need-enum-known-first (
-  factor-below t,
-  factor.Post,
-  fixed-ahead-reads.Asked,
-  fixed-ahead-reads.Learnt,
-  is-mul-reads.Asked,
-  is-mul-reads.Learnt,
-  advance-reads.Asked,
-  advance-reads.Learnt,
-  operation-reads.Asked,
-  operation-reads.Learnt,
-  emitted-reads.Asked,
-  emitted-reads.Learnt,
-  larger-reads.Asked,
-  larger-reads.Learnt,
-) (term-at t) term.Post term-Inv-loop term-μ-loop
-term-enum-known-first t c = ?
+term-enum-known-first : (t : ℕ) → term-lts.Need-enum-known-first (term-calls t) (term-at t) term.Post term-Inv-loop term-μ-loop
+term-enum-known-first t c = search needs
 
--- src/expression.rt:69:9
-term-enum-told : (t : ℕ) → term-lts.Need-enum-told (
-  factor-below t,
-  factor.Post,
-  fixed-ahead-reads.Asked,
-  fixed-ahead-reads.Learnt,
-  is-mul-reads.Asked,
-  is-mul-reads.Learnt,
-  advance-reads.Asked,
-  advance-reads.Learnt,
-  operation-reads.Asked,
-  operation-reads.Learnt,
-  emitted-reads.Asked,
-  emitted-reads.Learnt,
-  larger-reads.Asked,
-  larger-reads.Learnt,
-) (term-at t) term.Post term-Inv-loop term-μ-loop
-term-enum-told t c = ?
+term-enum-told : (t : ℕ) → term-lts.Need-enum-told (term-calls t) (term-at t) term.Post term-Inv-loop term-μ-loop
+term-enum-told t c = search needs
 
--- src/expression.rt:69:9
-term-same-length : (t : ℕ) → term-lts.Need-same-length (
-  factor-below t,
-  factor.Post,
-  fixed-ahead-reads.Asked,
-  fixed-ahead-reads.Learnt,
-  is-mul-reads.Asked,
-  is-mul-reads.Learnt,
-  advance-reads.Asked,
-  advance-reads.Learnt,
-  operation-reads.Asked,
-  operation-reads.Learnt,
-  emitted-reads.Asked,
-  emitted-reads.Learnt,
-  larger-reads.Asked,
-  larger-reads.Learnt,
-) (term-at t) term.Post term-Inv-loop term-μ-loop
-term-same-length t c = ?
+term-same-length : (t : ℕ) → term-lts.Need-same-length (term-calls t) (term-at t) term.Post term-Inv-loop term-μ-loop
+term-same-length t c = search needs
 
--- src/expression.rt:69:9
-term-returns : (t : ℕ) → term-lts.Need-returns (
-  factor-below t,
-  factor.Post,
-  fixed-ahead-reads.Asked,
-  fixed-ahead-reads.Learnt,
-  is-mul-reads.Asked,
-  is-mul-reads.Learnt,
-  advance-reads.Asked,
-  advance-reads.Learnt,
-  operation-reads.Asked,
-  operation-reads.Learnt,
-  emitted-reads.Asked,
-  emitted-reads.Learnt,
-  larger-reads.Asked,
-  larger-reads.Learnt,
-) (term-at t) term.Post term-Inv-loop term-μ-loop
-term-returns t c = ?
+term-returns : (t : ℕ) → term-lts.Need-returns (term-calls t) (term-at t) term.Post term-Inv-loop term-μ-loop
+unfolding Reads
+term-returns t c = rw (c .enum-told .given .1) (term-first _ _ _ .refuses _ _ (rw (c .enum-told .given .1) at (c .before .before .before .factor .ensures)))
 
--- src/expression.rt:73:5
-term-loop-holds : (t : ℕ) → term-lts.Need-loop-holds (
-  factor-below t,
-  factor.Post,
-  fixed-ahead-reads.Asked,
-  fixed-ahead-reads.Learnt,
-  is-mul-reads.Asked,
-  is-mul-reads.Learnt,
-  advance-reads.Asked,
-  advance-reads.Learnt,
-  operation-reads.Asked,
-  operation-reads.Learnt,
-  emitted-reads.Asked,
-  emitted-reads.Learnt,
-  larger-reads.Asked,
-  larger-reads.Learnt,
-) (term-at t) term.Post term-Inv-loop term-μ-loop
-term-loop-holds t c = ?
+term-loop-holds : (t : ℕ) → term-lts.Need-loop-holds (term-calls t) (term-at t) term.Post term-Inv-loop term-μ-loop
+term-loop-holds t c = record { count = refl; on = λ before w g. g }
 
--- src/expression.rt:74:13
-term-fixed-ahead-requires : (t : ℕ) → term-lts.Need-fixed-ahead-requires (
-  factor-below t,
-  factor.Post,
-  fixed-ahead-reads.Asked,
-  fixed-ahead-reads.Learnt,
-  is-mul-reads.Asked,
-  is-mul-reads.Learnt,
-  advance-reads.Asked,
-  advance-reads.Learnt,
-  operation-reads.Asked,
-  operation-reads.Learnt,
-  emitted-reads.Asked,
-  emitted-reads.Learnt,
-  larger-reads.Asked,
-  larger-reads.Learnt,
-) (term-at t) term.Post term-Inv-loop term-μ-loop
-term-fixed-ahead-requires t c κs = ?
+-- the construct so far, in the loop
+term-now : (t : ℕ) (c : term-lts.At-loop (term-calls t) (term-at t) term.Post term-Inv-loop term-μ-loop) → Got term-so-far (now (c .before .before .before .before .before .before .before .before .before .args .text)) (now (c .before .before .before .before .before .before .before .before .before .args .names)) (now (c .before .before .before .before .before .before .before .before .before .args .table)) (c .before .before .before .before .before .before .before .before .before .args .w) (c .before .before .before .before .before .before .before .before .before .args .allow) (now (c .before .before .before .before .before .before .before .before .before .args .names)) (c .loop .table) (c .loop .left) (record { need = c .loop .need })
+term-now t c = c .loop .inv .on _ _ (first-factor (got factor-way (c .before .before .first .given .1) (c .before .before .before .before .before .factor .ensures)))
 
--- src/expression.rt:75:13
-term-is-mul-requires : (t : ℕ) → term-lts.Need-is-mul-requires (
-  factor-below t,
-  factor.Post,
-  fixed-ahead-reads.Asked,
-  fixed-ahead-reads.Learnt,
-  is-mul-reads.Asked,
-  is-mul-reads.Learnt,
-  advance-reads.Asked,
-  advance-reads.Learnt,
-  operation-reads.Asked,
-  operation-reads.Learnt,
-  emitted-reads.Asked,
-  emitted-reads.Learnt,
-  larger-reads.Asked,
-  larger-reads.Learnt,
-) (term-at t) term.Post term-Inv-loop term-μ-loop
-term-is-mul-requires t c κs = ?
+term-fixed-ahead-requires : (t : ℕ) → term-lts.Need-fixed-ahead-requires (term-calls t) (term-at t) term.Post term-Inv-loop term-μ-loop
+term-fixed-ahead-requires t c κs = search needs
 
--- src/expression.rt:76:13
-term-same-length-2 : (t : ℕ) → term-lts.Need-same-length-2 (
-  factor-below t,
-  factor.Post,
-  fixed-ahead-reads.Asked,
-  fixed-ahead-reads.Learnt,
-  is-mul-reads.Asked,
-  is-mul-reads.Learnt,
-  advance-reads.Asked,
-  advance-reads.Learnt,
-  operation-reads.Asked,
-  operation-reads.Learnt,
-  emitted-reads.Asked,
-  emitted-reads.Learnt,
-  larger-reads.Asked,
-  larger-reads.Learnt,
-) (term-at t) term.Post term-Inv-loop term-μ-loop
-term-same-length-2 t c = ?
+term-is-mul-requires : (t : ℕ) → term-lts.Need-is-mul-requires (term-calls t) (term-at t) term.Post term-Inv-loop term-μ-loop
+term-is-mul-requires t c κs = search needs
 
--- src/expression.rt:76:13
-term-returns-2 : (t : ℕ) → term-lts.Need-returns-2 (
-  factor-below t,
-  factor.Post,
-  fixed-ahead-reads.Asked,
-  fixed-ahead-reads.Learnt,
-  is-mul-reads.Asked,
-  is-mul-reads.Learnt,
-  advance-reads.Asked,
-  advance-reads.Learnt,
-  operation-reads.Asked,
-  operation-reads.Learnt,
-  emitted-reads.Asked,
-  emitted-reads.Learnt,
-  larger-reads.Asked,
-  larger-reads.Learnt,
-) (term-at t) term.Post term-Inv-loop term-μ-loop
-term-returns-2 t c = ?
+term-same-length-2 : (t : ℕ) → term-lts.Need-same-length-2 (term-calls t) (term-at t) term.Post term-Inv-loop term-μ-loop
+term-same-length-2 t c = search needs
 
--- src/expression.rt:78:13
-term-advance-requires : (t : ℕ) → term-lts.Need-advance-requires (
-  factor-below t,
-  factor.Post,
-  fixed-ahead-reads.Asked,
-  fixed-ahead-reads.Learnt,
-  is-mul-reads.Asked,
-  is-mul-reads.Learnt,
-  advance-reads.Asked,
-  advance-reads.Learnt,
-  operation-reads.Asked,
-  operation-reads.Learnt,
-  emitted-reads.Asked,
-  emitted-reads.Learnt,
-  larger-reads.Asked,
-  larger-reads.Learnt,
-) (term-at t) term.Post term-Inv-loop term-μ-loop
-term-advance-requires t c κs = ?
+term-returns-2 : (t : ℕ) → term-lts.Need-returns-2 (term-calls t) (term-at t) term.Post term-Inv-loop term-μ-loop
+term-returns-2 t c = let g = term-now t (c .before .before .before) in done term-way refl (record { what = g .what; passed = term-whole _ (g .what) (g .passed) (ap is-mul (sym (c .before .before .fixed-ahead .ensures)) ∙ sym (c .before .is-mul .ensures) ∙ flag-off _ (c .if1 .taken)); laid = g .laid })
 
--- src/expression.rt:79:24
-term-enum-known-a : (t : ℕ) → term-lts.Need-enum-known-a (
-  factor-below t,
-  factor.Post,
-  fixed-ahead-reads.Asked,
-  fixed-ahead-reads.Learnt,
-  is-mul-reads.Asked,
-  is-mul-reads.Learnt,
-  advance-reads.Asked,
-  advance-reads.Learnt,
-  operation-reads.Asked,
-  operation-reads.Learnt,
-  emitted-reads.Asked,
-  emitted-reads.Learnt,
-  larger-reads.Asked,
-  larger-reads.Learnt,
-) (term-at t) term.Post term-Inv-loop term-μ-loop
-term-enum-known-a t c = ?
+term-advance-requires : (t : ℕ) → term-lts.Need-advance-requires (term-calls t) (term-at t) term.Post term-Inv-loop term-μ-loop
+term-advance-requires t c κs = term-now t (c .before .before .before) .passed .stands .within
 
--- src/expression.rt:80:13
-term-enum-told-2 : (t : ℕ) → term-lts.Need-enum-told-2 (
-  factor-below t,
-  factor.Post,
-  fixed-ahead-reads.Asked,
-  fixed-ahead-reads.Learnt,
-  is-mul-reads.Asked,
-  is-mul-reads.Learnt,
-  advance-reads.Asked,
-  advance-reads.Learnt,
-  operation-reads.Asked,
-  operation-reads.Learnt,
-  emitted-reads.Asked,
-  emitted-reads.Learnt,
-  larger-reads.Asked,
-  larger-reads.Learnt,
-) (term-at t) term.Post term-Inv-loop term-μ-loop
-term-enum-told-2 t c = ?
+term-enum-known-a : (t : ℕ) → term-lts.Need-enum-known-a (term-calls t) (term-at t) term.Post term-Inv-loop term-μ-loop
+term-enum-known-a t c = search needs
 
--- src/expression.rt:80:13
-term-same-length-3 : (t : ℕ) → term-lts.Need-same-length-3 (
-  factor-below t,
-  factor.Post,
-  fixed-ahead-reads.Asked,
-  fixed-ahead-reads.Learnt,
-  is-mul-reads.Asked,
-  is-mul-reads.Learnt,
-  advance-reads.Asked,
-  advance-reads.Learnt,
-  operation-reads.Asked,
-  operation-reads.Learnt,
-  emitted-reads.Asked,
-  emitted-reads.Learnt,
-  larger-reads.Asked,
-  larger-reads.Learnt,
-) (term-at t) term.Post term-Inv-loop term-μ-loop
-term-same-length-3 t c = ?
+term-enum-told-2 : (t : ℕ) → term-lts.Need-enum-told-2 (term-calls t) (term-at t) term.Post term-Inv-loop term-μ-loop
+term-enum-told-2 t c = search needs
 
--- src/expression.rt:80:13
-term-returns-3 : (t : ℕ) → term-lts.Need-returns-3 (
-  factor-below t,
-  factor.Post,
-  fixed-ahead-reads.Asked,
-  fixed-ahead-reads.Learnt,
-  is-mul-reads.Asked,
-  is-mul-reads.Learnt,
-  advance-reads.Asked,
-  advance-reads.Learnt,
-  operation-reads.Asked,
-  operation-reads.Learnt,
-  emitted-reads.Asked,
-  emitted-reads.Learnt,
-  larger-reads.Asked,
-  larger-reads.Learnt,
-) (term-at t) term.Post term-Inv-loop term-μ-loop
-term-returns-3 t c = ?
+term-same-length-3 : (t : ℕ) → term-lts.Need-same-length-3 (term-calls t) (term-at t) term.Post term-Inv-loop term-μ-loop
+term-same-length-3 t c = search needs
 
--- src/expression.rt:82:13
-term-factor-requires-2 : (t : ℕ) → term-lts.Need-factor-requires-2 (
-  factor-below t,
-  factor.Post,
-  fixed-ahead-reads.Asked,
-  fixed-ahead-reads.Learnt,
-  is-mul-reads.Asked,
-  is-mul-reads.Learnt,
-  advance-reads.Asked,
-  advance-reads.Learnt,
-  operation-reads.Asked,
-  operation-reads.Learnt,
-  emitted-reads.Asked,
-  emitted-reads.Learnt,
-  larger-reads.Asked,
-  larger-reads.Learnt,
-) (term-at t) term.Post term-Inv-loop term-μ-loop
-term-factor-requires-2 t c κs = ?
+term-returns-3 : (t : ℕ) → term-lts.Need-returns-3 (term-calls t) (term-at t) term.Post term-Inv-loop term-μ-loop
+term-returns-3 t c = stopped term-way _ _ _ _ _ _ _ (c .enum-told2 .given .1) (right-lost term-joins (term-now t (c .before .before .before .before .before .before)) (c .before .before .before .before .before .fixed-ahead .ensures) (sym (c .before .before .before .before .is-mul .ensures) ∙ flag-on _ (c .before .before .before .if1 .left)) (unread _ _ _ (c .before .before .advance .ensures) (c .enum-told2 .given .1)))
 
--- src/expression.rt:83:24
-term-enum-known-r : (t : ℕ) → term-lts.Need-enum-known-r (
-  factor-below t,
-  factor.Post,
-  fixed-ahead-reads.Asked,
-  fixed-ahead-reads.Learnt,
-  is-mul-reads.Asked,
-  is-mul-reads.Learnt,
-  advance-reads.Asked,
-  advance-reads.Learnt,
-  operation-reads.Asked,
-  operation-reads.Learnt,
-  emitted-reads.Asked,
-  emitted-reads.Learnt,
-  larger-reads.Asked,
-  larger-reads.Learnt,
-) (term-at t) term.Post term-Inv-loop term-μ-loop
-term-enum-known-r t c = ?
+term-factor-requires-2 : (t : ℕ) → term-lts.Need-factor-requires-2 (term-calls t) (term-at t) term.Post term-Inv-loop term-μ-loop
+term-factor-requires-2 t c κs = (omega (arith, c .before .before .before .before .before .before .before .before .before .before .before .before .before .before .before .before .before .pre .0), (ready-past (ready-got (c .before .before .before .before .before .before .before .before .before .before .before .before .before .before .before .before .before .pre .1) (term-now t (c .before .before .before .before .before .before .before .before))) _ (le-refl _) (past _ _ _ (c .before .before .before .before .advance .ensures) (c .before .before .a .given .1))))
 
--- src/expression.rt:84:13
-term-enum-told-3 : (t : ℕ) → term-lts.Need-enum-told-3 (
-  factor-below t,
-  factor.Post,
-  fixed-ahead-reads.Asked,
-  fixed-ahead-reads.Learnt,
-  is-mul-reads.Asked,
-  is-mul-reads.Learnt,
-  advance-reads.Asked,
-  advance-reads.Learnt,
-  operation-reads.Asked,
-  operation-reads.Learnt,
-  emitted-reads.Asked,
-  emitted-reads.Learnt,
-  larger-reads.Asked,
-  larger-reads.Learnt,
-) (term-at t) term.Post term-Inv-loop term-μ-loop
-term-enum-told-3 t c = ?
+term-enum-known-r : (t : ℕ) → term-lts.Need-enum-known-r (term-calls t) (term-at t) term.Post term-Inv-loop term-μ-loop
+term-enum-known-r t c = search needs
 
--- src/expression.rt:84:13
-term-same-length-4 : (t : ℕ) → term-lts.Need-same-length-4 (
-  factor-below t,
-  factor.Post,
-  fixed-ahead-reads.Asked,
-  fixed-ahead-reads.Learnt,
-  is-mul-reads.Asked,
-  is-mul-reads.Learnt,
-  advance-reads.Asked,
-  advance-reads.Learnt,
-  operation-reads.Asked,
-  operation-reads.Learnt,
-  emitted-reads.Asked,
-  emitted-reads.Learnt,
-  larger-reads.Asked,
-  larger-reads.Learnt,
-) (term-at t) term.Post term-Inv-loop term-μ-loop
-term-same-length-4 t c = ?
+term-enum-told-3 : (t : ℕ) → term-lts.Need-enum-told-3 (term-calls t) (term-at t) term.Post term-Inv-loop term-μ-loop
+term-enum-told-3 t c = search needs
 
--- src/expression.rt:84:13
-term-returns-4 : (t : ℕ) → term-lts.Need-returns-4 (
-  factor-below t,
-  factor.Post,
-  fixed-ahead-reads.Asked,
-  fixed-ahead-reads.Learnt,
-  is-mul-reads.Asked,
-  is-mul-reads.Learnt,
-  advance-reads.Asked,
-  advance-reads.Learnt,
-  operation-reads.Asked,
-  operation-reads.Learnt,
-  emitted-reads.Asked,
-  emitted-reads.Learnt,
-  larger-reads.Asked,
-  larger-reads.Learnt,
-) (term-at t) term.Post term-Inv-loop term-μ-loop
-term-returns-4 t c = ?
+term-same-length-4 : (t : ℕ) → term-lts.Need-same-length-4 (term-calls t) (term-at t) term.Post term-Inv-loop term-μ-loop
+term-same-length-4 t c = search needs
 
--- src/expression.rt:86:40
-term-operation-requires : (t : ℕ) → term-lts.Need-operation-requires (
-  factor-below t,
-  factor.Post,
-  fixed-ahead-reads.Asked,
-  fixed-ahead-reads.Learnt,
-  is-mul-reads.Asked,
-  is-mul-reads.Learnt,
-  advance-reads.Asked,
-  advance-reads.Learnt,
-  operation-reads.Asked,
-  operation-reads.Learnt,
-  emitted-reads.Asked,
-  emitted-reads.Learnt,
-  larger-reads.Asked,
-  larger-reads.Learnt,
-) (term-at t) term.Post term-Inv-loop term-μ-loop
-term-operation-requires t c κs = ?
+term-returns-4 : (t : ℕ) → term-lts.Need-returns-4 (term-calls t) (term-at t) term.Post term-Inv-loop term-μ-loop
+term-returns-4 t c = stopped term-way _ _ _ _ _ _ _ (c .enum-told3 .given .1) (right-refused term-joins (term-now t (c .before .before .before .before .before .before .before .before .before .before .before .before)) (c .before .before .before .before .before .before .before .before .before .before .before .fixed-ahead .ensures) (sym (c .before .before .before .before .before .before .before .before .before .before .is-mul .ensures) ∙ flag-on _ (c .before .before .before .before .before .before .before .before .before .if1 .left)) (past _ _ _ (c .before .before .before .before .before .before .before .before .advance .ensures) (c .before .before .before .before .before .before .a .given .1)) _ _ (barred factor-way _ _ _ _ _ _ _ (c .enum-told3 .given .1) (c .before .before .before .factor2 .ensures)))
 
--- src/expression.rt:86:9
-term-emitted-requires : (t : ℕ) → term-lts.Need-emitted-requires (
-  factor-below t,
-  factor.Post,
-  fixed-ahead-reads.Asked,
-  fixed-ahead-reads.Learnt,
-  is-mul-reads.Asked,
-  is-mul-reads.Learnt,
-  advance-reads.Asked,
-  advance-reads.Learnt,
-  operation-reads.Asked,
-  operation-reads.Learnt,
-  emitted-reads.Asked,
-  emitted-reads.Learnt,
-  larger-reads.Asked,
-  larger-reads.Learnt,
-) (term-at t) term.Post term-Inv-loop term-μ-loop
-term-emitted-requires t c κs = ?
+term-operation-requires : (t : ℕ) → term-lts.Need-operation-requires (term-calls t) (term-at t) term.Post term-Inv-loop term-μ-loop
+term-operation-requires t c κs = search needs
 
--- src/expression.rt:87:35
-term-add-larger : (t : ℕ) → term-lts.Need-add-larger (
-  factor-below t,
-  factor.Post,
-  fixed-ahead-reads.Asked,
-  fixed-ahead-reads.Learnt,
-  is-mul-reads.Asked,
-  is-mul-reads.Learnt,
-  advance-reads.Asked,
-  advance-reads.Learnt,
-  operation-reads.Asked,
-  operation-reads.Learnt,
-  emitted-reads.Asked,
-  emitted-reads.Learnt,
-  larger-reads.Asked,
-  larger-reads.Learnt,
-) (term-at t) term.Post term-Inv-loop term-μ-loop
-term-add-larger t c = ?
+term-emitted-requires : (t : ℕ) → term-lts.Need-emitted-requires (term-calls t) (term-at t) term.Post term-Inv-loop term-μ-loop
+term-emitted-requires t c κs = counts-got (ready-past (ready-got (c .before .before .before .before .before .before .before .before .before .before .before .before .before .before .before .before .before .before .before .before .before .before .before .before .pre .1) (term-now t (c .before .before .before .before .before .before .before .before .before .before .before .before .before .before .before))) _ (le-refl _) (past _ _ _ (c .before .before .before .before .before .before .before .before .before .before .before .advance .ensures) (c .before .before .before .before .before .before .before .before .before .a .given .1))) (got factor-way (c .before .before .before .r .given .1) (c .before .before .before .before .before .before .factor2 .ensures)) .0
 
--- src/expression.rt:87:9
-term-larger-requires : (t : ℕ) → term-lts.Need-larger-requires (
-  factor-below t,
-  factor.Post,
-  fixed-ahead-reads.Asked,
-  fixed-ahead-reads.Learnt,
-  is-mul-reads.Asked,
-  is-mul-reads.Learnt,
-  advance-reads.Asked,
-  advance-reads.Learnt,
-  operation-reads.Asked,
-  operation-reads.Learnt,
-  emitted-reads.Asked,
-  emitted-reads.Learnt,
-  larger-reads.Asked,
-  larger-reads.Learnt,
-) (term-at t) term.Post term-Inv-loop term-μ-loop
-term-larger-requires t c κs = ?
+term-add-larger : (t : ℕ) → term-lts.Need-add-larger (term-calls t) (term-at t) term.Post term-Inv-loop term-μ-loop
+term-add-larger t c = omega (arith, counts-got (ready-past (ready-got (c .before .before .before .before .before .before .before .before .before .before .before .before .before .before .before .before .before .before .before .before .before .before .before .before .before .before .before .pre .1) (term-now t (c .before .before .before .before .before .before .before .before .before .before .before .before .before .before .before .before .before .before))) _ (le-refl _) (past _ _ _ (c .before .before .before .before .before .before .before .before .before .before .before .before .before .before .advance .ensures) (c .before .before .before .before .before .before .before .before .before .before .before .before .a .given .1))) (got factor-way (c .before .before .before .before .before .before .r .given .1) (c .before .before .before .before .before .before .before .before .before .factor2 .ensures)) .1)
 
--- src/expression.rt:73:5
-term-loop-less : (t : ℕ) → term-lts.Need-loop-less (
-  factor-below t,
-  factor.Post,
-  fixed-ahead-reads.Asked,
-  fixed-ahead-reads.Learnt,
-  is-mul-reads.Asked,
-  is-mul-reads.Learnt,
-  advance-reads.Asked,
-  advance-reads.Learnt,
-  operation-reads.Asked,
-  operation-reads.Learnt,
-  emitted-reads.Asked,
-  emitted-reads.Learnt,
-  larger-reads.Asked,
-  larger-reads.Learnt,
-) (term-at t) term.Post term-Inv-loop term-μ-loop
-term-loop-less t c = ?
+term-larger-requires : (t : ℕ) → term-lts.Need-larger-requires (term-calls t) (term-at t) term.Post term-Inv-loop term-μ-loop
+term-larger-requires t c κs = search needs
 
--- src/expression.rt:73:5
-term-loop-again : (t : ℕ) → term-lts.Need-loop-again (
-  factor-below t,
-  factor.Post,
-  fixed-ahead-reads.Asked,
-  fixed-ahead-reads.Learnt,
-  is-mul-reads.Asked,
-  is-mul-reads.Learnt,
-  advance-reads.Asked,
-  advance-reads.Learnt,
-  operation-reads.Asked,
-  operation-reads.Learnt,
-  emitted-reads.Asked,
-  emitted-reads.Learnt,
-  larger-reads.Asked,
-  larger-reads.Learnt,
-) (term-at t) term.Post term-Inv-loop term-μ-loop
-term-loop-again t c = ?
+term-loop-less : (t : ℕ) → term-lts.Need-loop-less (term-calls t) (term-at t) term.Post term-Inv-loop term-μ-loop
+unfolding one-more
+term-loop-less t c = rw (c .before .before .before .emitted .ensures .0) (omega (arith, right-later term-joins (term-now t (c .before .before .before .before .before .before .before .before .before .before .before .before .before .before .before .before .before .before .before)) (c .before .before .before .before .before .before .before .before .before .before .before .before .before .before .before .before .before .before .fixed-ahead .ensures) (sym (c .before .before .before .before .before .before .before .before .before .before .before .before .before .before .before .before .before .is-mul .ensures) ∙ flag-on _ (c .before .before .before .before .before .before .before .before .before .before .before .before .before .before .before .before .if1 .left)) (past _ _ _ (c .before .before .before .before .before .before .before .before .before .before .before .before .before .before .before .advance .ensures) (c .before .before .before .before .before .before .before .before .before .before .before .before .before .a .given .1)) (got factor-way (c .before .before .before .before .before .before .before .r .given .1) (c .before .before .before .before .before .before .before .before .before .before .factor2 .ensures)) .0, right-later term-joins (term-now t (c .before .before .before .before .before .before .before .before .before .before .before .before .before .before .before .before .before .before .before)) (c .before .before .before .before .before .before .before .before .before .before .before .before .before .before .before .before .before .before .fixed-ahead .ensures) (sym (c .before .before .before .before .before .before .before .before .before .before .before .before .before .before .before .before .before .is-mul .ensures) ∙ flag-on _ (c .before .before .before .before .before .before .before .before .before .before .before .before .before .before .before .before .if1 .left)) (past _ _ _ (c .before .before .before .before .before .before .before .before .before .before .before .before .before .before .before .advance .ensures) (c .before .before .before .before .before .before .before .before .before .before .before .before .before .a .given .1)) (got factor-way (c .before .before .before .before .before .before .before .r .given .1) (c .before .before .before .before .before .before .before .before .before .before .factor2 .ensures)) .1 .order, right-later term-joins (term-now t (c .before .before .before .before .before .before .before .before .before .before .before .before .before .before .before .before .before .before .before)) (c .before .before .before .before .before .before .before .before .before .before .before .before .before .before .before .before .before .before .fixed-ahead .ensures) (sym (c .before .before .before .before .before .before .before .before .before .before .before .before .before .before .before .before .before .is-mul .ensures) ∙ flag-on _ (c .before .before .before .before .before .before .before .before .before .before .before .before .before .before .before .before .if1 .left)) (past _ _ _ (c .before .before .before .before .before .before .before .before .before .before .before .before .before .before .before .advance .ensures) (c .before .before .before .before .before .before .before .before .before .before .before .before .before .a .given .1)) (got factor-way (c .before .before .before .before .before .before .before .r .given .1) (c .before .before .before .before .before .before .before .before .before .before .factor2 .ensures)) .1 .within))
+
+term-loop-again : (t : ℕ) → term-lts.Need-loop-again (term-calls t) (term-at t) term.Post term-Inv-loop term-μ-loop
+term-loop-again t c = rw (c .before .before .before .emitted .ensures .0, c .before .before .before .emitted .ensures .1, toZ-ofZ (record { sfits = c .before .before .before .before .operation .ok }), c .before .before .before .before .operation .ensures, c .larger .ensures) (round-on term-joins (c .before .before .before .before .before .before .before .before .before .before .before .before .before .before .before .before .before .before .before .loop .inv) (c .before .before .before .before .before .before .before .before .before .before .before .before .before .before .before .before .before .before .fixed-ahead .ensures) (sym (c .before .before .before .before .before .before .before .before .before .before .before .before .before .before .before .before .before .is-mul .ensures) ∙ flag-on _ (c .before .before .before .before .before .before .before .before .before .before .before .before .before .before .before .before .if1 .left)) (past _ _ _ (c .before .before .before .before .before .before .before .before .before .before .before .before .before .before .before .advance .ensures) (c .before .before .before .before .before .before .before .before .before .before .before .before .before .a .given .1)) (got factor-way (c .before .before .before .before .before .before .before .r .given .1) (c .before .before .before .before .before .before .before .before .before .before .factor2 .ensures)) (c .before .before .before .before .before .before .before .before .before .before .factor2 .kept .1 .1 .1 .0))
 
 pub +bracket+expression+factor+first-term+term-spec : {M : Type 1} → statement M
 +bracket+expression+factor+first-term+term-spec =
-    close μ-bracket μ-expression μ-factor μ-first-term μ-term (λ t. bracket-lts.spec (
-      advance-reads.Asked,
-      advance-reads.Learnt,
-      expression-below t,
-      expression.Post,
-      expect-reads.Asked,
-      expect-reads.Learnt,
-    )
-    (bracket-at t)
+    close μ-bracket μ-expression μ-factor μ-first-term μ-term (λ t. bracket-lts.spec (bracket-calls t) (bracket-at t)
     bracket.Post
     (bracket-advance-requires t)
     (bracket-enum-known-a t)
@@ -1920,25 +630,7 @@ pub +bracket+expression+factor+first-term+term-spec : {M : Type 1} → statement
     (bracket-expect-requires t)
     (bracket-same-length-2 t)
     (bracket-returns-3 t))
-    (λ t. expression-lts.spec (
-      first-term-below t,
-      first-term.Post,
-      fixed-ahead-reads.Asked,
-      fixed-ahead-reads.Learnt,
-      is-sign-reads.Asked,
-      is-sign-reads.Learnt,
-      advance-reads.Asked,
-      advance-reads.Learnt,
-      term-below t,
-      term.Post,
-      operation-reads.Asked,
-      operation-reads.Learnt,
-      emitted-reads.Asked,
-      emitted-reads.Learnt,
-      larger-reads.Asked,
-      larger-reads.Learnt,
-    )
-    (expression-at t)
+    (λ t. expression-lts.spec (expression-calls t) (expression-at t)
     expression.Post
     expression-Inv-loop
     expression-μ-loop
@@ -1968,19 +660,7 @@ pub +bracket+expression+factor+first-term+term-spec : {M : Type 1} → statement
     (expression-larger-requires t)
     (expression-loop-less t)
     (expression-loop-again t))
-    (λ t. factor-lts.spec (
-      operand-reads.Asked,
-      operand-reads.Learnt,
-      emitted-reads.Asked,
-      emitted-reads.Learnt,
-      advance-reads.Asked,
-      advance-reads.Learnt,
-      used-reads.Asked,
-      used-reads.Learnt,
-      bracket-below t,
-      bracket.Post,
-    )
-    (factor-at t)
+    (λ t. factor-lts.spec (factor-calls t) (factor-at t)
     factor.Post
     (factor-enum-known-kind t)
     (factor-cast-operand t)
@@ -2005,19 +685,7 @@ pub +bracket+expression+factor+first-term+term-spec : {M : Type 1} → statement
     (factor-returns-6 t)
     (factor-same-length-3 t)
     (factor-returns-7 t))
-    (λ t. first-term-lts.spec (
-      fixed-ahead-reads.Asked,
-      fixed-ahead-reads.Learnt,
-      is-sign-reads.Asked,
-      is-sign-reads.Learnt,
-      term-below t,
-      term.Post,
-      advance-reads.Asked,
-      advance-reads.Learnt,
-      emitted-reads.Asked,
-      emitted-reads.Learnt,
-    )
-    (first-term-at t)
+    (λ t. first-term-lts.spec (first-term-calls t) (first-term-at t)
     first-term.Post
     (first-term-fixed-ahead-requires t)
     (first-term-is-sign-requires t)
@@ -2038,23 +706,7 @@ pub +bracket+expression+factor+first-term+term-spec : {M : Type 1} → statement
     (first-term-returns-4 t)
     (first-term-same-length-4 t)
     (first-term-returns-5 t))
-    λ t. term-lts.spec (
-      factor-below t,
-      factor.Post,
-      fixed-ahead-reads.Asked,
-      fixed-ahead-reads.Learnt,
-      is-mul-reads.Asked,
-      is-mul-reads.Learnt,
-      advance-reads.Asked,
-      advance-reads.Learnt,
-      operation-reads.Asked,
-      operation-reads.Learnt,
-      emitted-reads.Asked,
-      emitted-reads.Learnt,
-      larger-reads.Asked,
-      larger-reads.Learnt,
-    )
-    (term-at t)
+    λ t. term-lts.spec (term-calls t) (term-at t)
     term.Post
     term-Inv-loop
     term-μ-loop
