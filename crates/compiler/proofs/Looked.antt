@@ -1,7 +1,7 @@
 -- Which lexeme stands ahead, by its kind and its number. Assumes nothing.
 use mathlib.Core.Path.{_≡_, refl, sym, ap, subst, _∙_}
 use mathlib.Core.List.{List}
-use mathlib.Core.Bool.{Bool, true, false}
+use mathlib.Core.Bool.{Bool, true, false, not}
 use mathlib.Core.Logic.{inl, inr}
 use Prim.Native.Nat.{ℕ, _+_, _-_}
 use native.Mathlib.Omega.{arith}
@@ -21,6 +21,15 @@ use Rattle.compiler.specs.Walks.{name-of}
 -- the string of the code's lexeme l
 unfoldable pub quoted-of : List ℕ → code.Lexeme → Quoted
 quoted-of text l = record { inside = part text (l .place + 1) (l .end - 1); place = l .place + 1 }
+
+-- a flag that is turned round
+pub flag-off : (b : Bool) → not b ≡ true → b ≡ false
+flag-off true e = sym e
+flag-off false e = refl
+
+pub flag-on : (b : Bool) → not b ≡ false → b ≡ true
+flag-on true e = refl
+flag-on false e = sym e
 
 -- ---- a lexeme that is not the end
 

@@ -46,7 +46,6 @@ module _ {k : Kind} (way : Way k (Sen Name k)) {text names names′ : List ℕ} 
   unfolding Reads
   done e g = rw e (g .what, g .passed, g .laid)
 
-
 module _ {k : Kind} (way : Way k (Sen Name k)) (text names : List ℕ) (table : List ℤ) (w : Walk) (allow : ℕ) (names′ : List ℕ) (table′ : List ℤ) {r : Read} {why : Refusal} {p : ℕ} (is : r ≡ Refused why p) where
   pub barred : Reads k (way .start) (way .stop) text names table w allow r names′ table′ → Barred way text (w .next) allow why p
   unfolding Reads

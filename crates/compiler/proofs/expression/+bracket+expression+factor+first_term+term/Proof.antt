@@ -2,7 +2,7 @@
 use Prim.Native.Nat.{ℕ, suc, _+_, _-_, _*_, _≤_, _<_}
 use mathlib.Core.Path.{_≡_, refl, sym, ap, subst, _∙_}
 use mathlib.Core.List.{List, [], _∷_}
-use mathlib.Core.Bool.{Bool, true, false, not}
+use mathlib.Core.Bool.{true}
 use mathlib.Core.Logic.{inl, inr}
 use native.Mathlib.Nat.{le-refl}
 use native.Mathlib.Omega.{arith}
@@ -30,7 +30,7 @@ use Rattle.compiler.specs.Tables.{put}
 use Rattle.compiler.specs.Walks.{Reads, Reads-factor, Ready, Lays, name-of}
 use Rattle.compiler.proofs.Lays.{trail, lead, lays-literal, lays-bracket, lays-first, lays-unsigned, lays-signed-plus, lays-signed-minus}
 use Rattle.compiler.proofs.Names.{noted-is, lays-variable}
-use Rattle.compiler.proofs.Looked.{going, literal-goes, name-goes, signs, Is-one, is-one}
+use Rattle.compiler.proofs.Looked.{flag-off, flag-on, going, literal-goes, name-goes, signs, Is-one, is-one}
 use Rattle.compiler.proofs.Reading.{met}
 use Rattle.compiler.proofs.Passes.{factor-way, term-so-far, term-way, first-term-way, expression-way, literal-factor, variable-factor, no-factor, bracket-too-deep, bracket-refused, bracket-closed, bracket-unclosed, term-first, term-whole, unsigned-leads, signed-leads, expression-whole, lost-first}
 use Rattle.compiler.proofs.Replies.{Got, got, done, barred, stopped, handed-on, past, gives-need, unread, expected, code-fits, ready-past, ready-got, counts-got, term-joins, expression-joins, right-lost, right-refused, right-later, Rounds, round-on}
@@ -92,15 +92,6 @@ module _ {k : Kind} where
   unfolding fixed-number
   fixed-is e = ap fixed-number e
 
--- a flag that is turned round
-flag-off : (b : Bool) → not b ≡ true → b ≡ false
-flag-off true e = sym e
-flag-off false e = refl
-
-flag-on : (b : Bool) → not b ≡ false → b ≡ true
-flag-on true e = refl
-flag-on false e = sym e
-
 -- one nesting more than is allowed inside is what is allowed
 one-allowed : {text names : List ℕ} {w : Walk} {allow : ℕ} → Ready text names w allow → (allow ≡ 0 → ⊥) → Ready text names w (suc (allow - 1))
 one-allowed {allow} a n = let e : suc (allow - 1) ≡ allow = omega arith in rw e a
@@ -113,12 +104,11 @@ module _ {text names : List ℕ} (table : List ℤ) {table′ : List ℤ} {w x :
   literal-read : {v : ℕ} {z : ℤ} → w .next .kind ≡ kind.Literal v → x ≡ one-more w → z ≡ pos (operand-of v) → table′ ≡ put table (w .code) (pos 2 ∷ z ∷ []) → (r : Read) → Advances text x 1 r → Reads-factor text names table w allow r names table′
   unfolding Reads one-more
   literal-read {v} h e o t (Done u g) a =
-      let p = subst (λ (y : Walk). Past text y u) e (past text x 1 a refl) in
-      (
+      let p = subst (λ (y : Walk). Past text y u) e (past text x 1 a refl) in (
         S.literal (operand-of v),
         literal-factor (ready .stands) allow (p .follows) v h,
         subst (λ (y : Walk). Lays text names table w (S.literal (operand-of v)) names table′ y g) (sym (p .moved))
-        (rw (t, o, gives-need text x 1 a refl) (lays-literal (operand-of v) (u .next) (omega (arith, ready .stands .some (literal-goes (w .next) h), p .follows .later)) (ready .fine))),
+            (rw (t, o, gives-need text x 1 a refl) (lays-literal (operand-of v) (u .next) (omega (arith, ready .stands .some (literal-goes (w .next) h), p .follows .later)) (ready .fine))),
       )
   literal-read h e o t (Refused why p) a = lost-first factor-way text (w .next) allow (literal-goes (w .next) h) (rw e at (unread text x 1 a refl))
 
@@ -128,12 +118,11 @@ module _ {text names : List ℕ} (table : List ℤ) {table′ : List ℤ} {w x :
   variable-read h e t (Done u g) a =
       let c = cell-of text names w (w .next) in
       let p = subst (λ (y : Walk). Past text y u) e (past text x 1 a refl) in
-      let f = rw (noted-is c w (w .next .place)) at (p .follows) in
-      (
+      let f = rw (noted-is c w (w .next .place)) at (p .follows) in (
         S.variable (name-of text (w .next)),
         variable-factor (ready .stands) allow f h,
         subst (λ (y : Walk). Lays text names table w (S.variable (name-of text (w .next))) names table′ y g) (sym (p .moved))
-        (rw (t, gives-need text x 1 a refl) (lays-variable (u .next) (omega (arith, ready .stands .some (name-goes (w .next) h), f .later)) (ready .fine))),
+            (rw (t, gives-need text x 1 a refl) (lays-variable (u .next) (omega (arith, ready .stands .some (name-goes (w .next) h), f .later)) (ready .fine))),
       )
   variable-read h e t (Refused why p) a = lost-first factor-way text (w .next) allow (name-goes (w .next) h) (rw (e, noted-is) at (unread text x 1 a refl))
 
@@ -143,12 +132,11 @@ unfolding Reads
 bracket-read {text} {names} {table} {table′} {w} {x} {v} {g} allow ready h p b (Done u k) e =
     let m = met text v (g .need) close-round u k e in
     let q = expected text v (code-of close-round) (g .need) e in
-    let l = subst (λ (y : Walk). Lays text names table y (b .what) names table′ v g) (p .moved) (b .laid) in
-    (
+    let l = subst (λ (y : Walk). Lays text names table y (b .what) names table′ v g) (p .moved) (b .laid) in (
       S.bracket (b .what),
       bracket-closed (ready .stands) allow h (p .follows) (b .what) (b .passed) m,
       subst (λ (y : Walk). Lays text names table w (S.bracket (b .what)) names table′ y k) (sym (q .0 .moved))
-      (rw (q .1) (trail (u .next) (omega (arith, b .passed .stands .order, m .follows .later)) (lays-bracket (lead (x .next) (omega (arith, ready .stands .order, p .follows .later)) l)))),
+          (rw (q .1) (trail (u .next) (omega (arith, b .passed .stands .order, m .follows .later)) (lays-bracket (lead (x .next) (omega (arith, ready .stands .order, p .follows .later)) l)))),
     )
 bracket-read {text} {v} {g} allow ready h p b (Refused why q) e = bracket-unclosed (ready .stands) allow h (p .follows) v (g .need) (b .what) (b .passed) why q e
 
@@ -274,7 +262,7 @@ bracket-enum-told t c = search needs
 
 bracket-returns : (t : ℕ) → bracket-lts.Need-returns (bracket-calls t) (bracket-at t) bracket.Post
 unfolding code-of
-bracket-returns t c = stopped factor-way _ _ _ _ _ _ _ (c .enum-told .given .1) (lost-first factor-way _ _ _ (going _ (c .before .before .before .before .before .pre .1 .1) (λ z. omega arith)) (unread _ _ _ (c .before .before .advance .ensures) (c .enum-told .given .1)))
+bracket-returns t c = stopped factor-way _ _ _ _ _ _ _ (c .enum-told .given .1) (lost-first factor-way _ _ _ (going (c .before .before .before .before .before .args .w .next) (c .before .before .before .before .before .pre .1 .1) (λ z. omega arith)) (unread _ _ _ (c .before .before .advance .ensures) (c .enum-told .given .1)))
 
 bracket-expression-requires : (t : ℕ) → bracket-lts.Need-expression-requires (bracket-calls t) (bracket-at t) bracket.Post
 bracket-expression-requires t c κs = (omega arith, ready-past (c .before .before .before .before .before .before .before .pre .1 .0) _ (omega arith) (past _ _ _ (c .before .before .before .before .advance .ensures) (c .before .before .a .given .1)))

@@ -1,0 +1,135 @@
+-- `compiler::expression::condition` meets its contract. Assumes nothing.
+use Prim.Native.Nat.{ℕ, _-_, _<_}
+use mathlib.Core.Path.{_≡_, refl, sym, subst, _∙_}
+use mathlib.Core.List.{List, [], _∷_}
+use native.Mathlib.Nat.{le-refl}
+use native.Mathlib.Omega.{arith}
+use borrow.Author.Needs.{needs}
+use borrow.Fn.Kinds.{In}
+use borrow.Fn.PlainCycle.{Measures, is, falls, and}
+use lib.IntN.{ℤ, pos}
+use Rattle.lexeme.specs.Lexemes.{NOT}
+use Rattle.lexeme.specs.Coded.{code-of, fixed-number}
+use Rattle.sentence.specs.Sentences.{negated}
+use Rattle.compiler.specs.declared.walk.Walk.{Walk}
+use Rattle.compiler.specs.declared.walk.Gives.{Gives}
+use Rattle.compiler.specs.Steps.{one-more, Past}
+use Rattle.compiler.specs.Tables.{put}
+use Rattle.compiler.specs.Walks.{Reads, Ready, Lays}
+use Rattle.compiler.proofs.Lays.{lays-negated}
+use Rattle.compiler.proofs.Looked.{going}
+use Rattle.compiler.proofs.Passes.{condition-way, comparison-leads, negated-leads, negated-too-deep, lost-first}
+use Rattle.compiler.proofs.Replies.{Got, got, done, barred, stopped, handed-on, past, unread, ready-past, counts-got}
+use Rattle.compiler.proofs.expression.condition.Reads as condition
+use Rattle.compiler.proofs.expression.condition.Kinds as condition-kinds
+use Rattle.compiler.proofs.expression.+condition.Lts-condition as condition-lts
+use Rattle.compiler.proofs.expression.comparison.Reads as comparison-reads
+use Rattle.compiler.proofs.walk.advance.Reads as advance-reads
+use Rattle.compiler.proofs.walk.emitted.Reads as emitted-reads
+use Rattle.compiler.proofs.walk.fixed_ahead.Reads as fixed-ahead-reads
+use Rattle.compiler.proofs.expression.+condition.{statement}
+use Rattle.compiler.proofs.expression.+condition.Tie.{close}
+
+-- NOT was passed, and a condition read
+negated-got : {text names : List ℕ} {table table′ : List ℤ} {w x v : Walk} {allow : ℕ} {g : Gives} → Ready text names w allow → fixed-number (w .next .kind) ≡ code-of NOT → (allow ≡ 0 → ⊥) → Past text w x → Got condition-way text names table x (allow - 1) names table′ v g →
+    Got condition-way text names table w allow names (put table′ (v .code) (pos 15 ∷ pos 0 ∷ [])) (one-more v) g
+unfolding one-more code-of
+negated-got {text} {names} {table} {table′} {w} {x} {v} {allow} {g} ready h n p b = record {
+  what = negated (b .what);
+  passed = negated-leads (ready .stands) allow h n (p .follows) .passes (b .what) (b .passed);
+  laid = lays-negated (x .next) (omega (arith, ready .stands .some (going (w .next) h (λ z. omega arith)), p .follows .later)) (subst (λ (y : Walk). Lays text names table y (b .what) names table′ v g) (p .moved) (b .laid));
+}
+
+abbrev μ-condition : Measures 3 condition-kinds.ps ℕ
+μ-condition κs a = a .0
+
+abbrev condition-at : ℕ → In 3 condition-kinds.ps
+condition-at t = and 3 condition-kinds.ps (is 3 condition-kinds.ps μ-condition t) condition.Pre
+
+abbrev condition-below : ℕ → In 3 condition-kinds.ps
+condition-below t =
+    and 3 condition-kinds.ps (falls 3 condition-kinds.ps _<_ μ-condition t) condition.Pre
+
+abbrev condition-calls : ℕ → condition-lts.Claims
+condition-calls t = (fixed-ahead-reads.Asked, fixed-ahead-reads.Learnt, comparison-reads.Asked, comparison-reads.Learnt, advance-reads.Asked, advance-reads.Learnt, condition-below t, condition.Post, emitted-reads.Asked, emitted-reads.Learnt)
+
+condition-fixed-ahead-requires : (t : ℕ) → condition-lts.Need-fixed-ahead-requires (condition-calls t) (condition-at t) condition.Post
+condition-fixed-ahead-requires t c κs = search needs
+
+condition-comparison-requires : (t : ℕ) → condition-lts.Need-comparison-requires (condition-calls t) (condition-at t) condition.Post
+condition-comparison-requires t c κs = c .before .before .before .before .before .pre .1
+
+condition-same-length : (t : ℕ) → condition-lts.Need-same-length (condition-calls t) (condition-at t) condition.Post
+condition-same-length t c = search needs
+
+condition-returns : (t : ℕ) → condition-lts.Need-returns (condition-calls t) (condition-at t) condition.Post
+unfolding code-of
+condition-returns t c = handed-on (comparison-leads (c .before .before .before .before .before .before .before .pre .1 .stands) _ (λ z. c .before .before .before .if1 .taken (c .before .before .before .before .fixed-ahead .ensures ∙ z))) (λ x v g p. p) _ (c .before .comparison .ensures)
+
+condition-returns-2 : (t : ℕ) → condition-lts.Need-returns-2 (condition-calls t) (condition-at t) condition.Post
+unfolding Reads code-of
+condition-returns-2 t c = negated-too-deep (c .before .before .before .before .before .before .pre .1 .stands) _ (sym (c .before .before .before .fixed-ahead .ensures) ∙ c .before .before .if1 .left) (c .before .if2 .taken)
+
+condition-advance-requires : (t : ℕ) → condition-lts.Need-advance-requires (condition-calls t) (condition-at t) condition.Post
+condition-advance-requires t c κs = c .before .before .before .before .before .pre .1 .stands .within
+
+condition-enum-known-a : (t : ℕ) → condition-lts.Need-enum-known-a (condition-calls t) (condition-at t) condition.Post
+condition-enum-known-a t c = search needs
+
+condition-enum-told : (t : ℕ) → condition-lts.Need-enum-told (condition-calls t) (condition-at t) condition.Post
+condition-enum-told t c = search needs
+
+condition-returns-3 : (t : ℕ) → condition-lts.Need-returns-3 (condition-calls t) (condition-at t) condition.Post
+unfolding code-of
+condition-returns-3 t c = stopped condition-way _ _ _ _ _ _ _ (c .enum-told .given .1) (lost-first condition-way _ _ _ (going (c .before .before .before .before .before .before .before .before .args .w .next) (sym (c .before .before .before .before .before .fixed-ahead .ensures) ∙ c .before .before .before .before .if1 .left) (λ z. omega arith)) (unread _ _ _ (c .before .before .advance .ensures) (c .enum-told .given .1)))
+
+condition-sub-condition : (t : ℕ) → condition-lts.Need-sub-condition (condition-calls t) (condition-at t) condition.Post
+condition-sub-condition t c = search needs
+
+condition-condition-requires : (t : ℕ) → condition-lts.Need-condition-requires (condition-calls t) (condition-at t) condition.Post
+condition-condition-requires t c κs = (omega (arith, c .before .before .before .before .before .before .before .before .before .before .pre .0, c .before .before .before .before .before .if2 .left), ready-past (c .before .before .before .before .before .before .before .before .before .before .pre .1) _ (omega arith) (past _ _ _ (c .before .before .before .before .advance .ensures) (c .before .before .a .given .1)))
+
+condition-enum-known-r : (t : ℕ) → condition-lts.Need-enum-known-r (condition-calls t) (condition-at t) condition.Post
+condition-enum-known-r t c = search needs
+
+condition-enum-told-2 : (t : ℕ) → condition-lts.Need-enum-told-2 (condition-calls t) (condition-at t) condition.Post
+condition-enum-told-2 t c = search needs
+
+condition-same-length-2 : (t : ℕ) → condition-lts.Need-same-length-2 (condition-calls t) (condition-at t) condition.Post
+condition-same-length-2 t c = search needs
+
+condition-returns-4 : (t : ℕ) → condition-lts.Need-returns-4 (condition-calls t) (condition-at t) condition.Post
+unfolding code-of
+condition-returns-4 t c = stopped condition-way _ _ _ _ _ _ _ (c .enum-told2 .given .1) (negated-leads (c .before .before .before .before .before .before .before .before .before .before .before .before .before .before .pre .1 .stands) _ (sym (c .before .before .before .before .before .before .before .before .before .before .before .fixed-ahead .ensures) ∙ c .before .before .before .before .before .before .before .before .before .before .if1 .left) (c .before .before .before .before .before .before .before .before .before .if2 .left) ((past _ _ _ (c .before .before .before .before .before .before .before .before .advance .ensures) (c .before .before .before .before .before .before .a .given .1)) .follows) .refuses _ _ (barred condition-way _ _ _ _ _ _ _ (c .enum-told2 .given .1) (c .before .before .before .condition .ensures)))
+
+condition-emitted-requires : (t : ℕ) → condition-lts.Need-emitted-requires (condition-calls t) (condition-at t) condition.Post
+condition-emitted-requires t c κs = counts-got (ready-past (c .before .before .before .before .before .before .before .before .before .before .before .before .before .before .before .before .pre .1) _ (le-refl _) (past _ _ _ (c .before .before .before .before .before .before .before .before .before .before .advance .ensures) (c .before .before .before .before .before .before .before .before .a .given .1))) (got condition-way (c .before .before .r .given .1) (c .before .before .before .before .before .condition .ensures)) .0
+
+condition-same-length-3 : (t : ℕ) → condition-lts.Need-same-length-3 (condition-calls t) (condition-at t) condition.Post
+condition-same-length-3 t c = search needs
+
+condition-returns-5 : (t : ℕ) → condition-lts.Need-returns-5 (condition-calls t) (condition-at t) condition.Post
+unfolding code-of
+condition-returns-5 t c = done condition-way refl (rw (c .before .emitted .ensures .0, c .before .emitted .ensures .1) (negated-got (c .before .before .before .before .before .before .before .before .before .before .before .before .before .before .before .before .before .before .pre .1) (sym (c .before .before .before .before .before .before .before .before .before .before .before .before .before .before .before .fixed-ahead .ensures) ∙ c .before .before .before .before .before .before .before .before .before .before .before .before .before .before .if1 .left) (c .before .before .before .before .before .before .before .before .before .before .before .before .before .if2 .left) (past _ _ _ (c .before .before .before .before .before .before .before .before .before .before .before .before .advance .ensures) (c .before .before .before .before .before .before .before .before .before .before .a .given .1)) (got condition-way (c .before .before .before .before .r .given .1) (c .before .before .before .before .before .before .before .condition .ensures))))
+
+pub +condition-spec : {M : Type 1} → statement M
++condition-spec = close μ-condition λ t. condition-lts.spec (condition-calls t) (condition-at t)
+    condition.Post
+    (condition-fixed-ahead-requires t)
+    (condition-comparison-requires t)
+    (condition-same-length t)
+    (condition-returns t)
+    (condition-returns-2 t)
+    (condition-advance-requires t)
+    (condition-enum-known-a t)
+    (condition-enum-told t)
+    (condition-returns-3 t)
+    (condition-sub-condition t)
+    (condition-condition-requires t)
+    (condition-enum-known-r t)
+    (condition-enum-told-2 t)
+    (condition-same-length-2 t)
+    (condition-returns-4 t)
+    (condition-emitted-requires t)
+    (condition-same-length-3 t)
+    (condition-returns-5 t)
