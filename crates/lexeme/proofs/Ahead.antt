@@ -16,6 +16,7 @@ use Rattle.lexeme.specs.declared.Lexeme.{Lexeme}
 use Rattle.lexeme.specs.declared.Found.the-variants.{Is, Refused}
 use Rattle.lexeme.proofs.Decoded.{told-fixed}
 use Rattle.lexeme.proofs.Places.{code-lexeme, next-fits, next-no-end, next-placed}
+use Rattle.lexeme.proofs.Symbols.{Each, nil, _also_}
 use Rattle.lexeme.proofs.Scans.{from-one, from-large, from-none, from-refused}
 
 -- the lexemes ls stand from the place at on
@@ -86,3 +87,34 @@ module _ {text : List ℕ} where
   pub not-ahead : {l : Lexeme} {ls : List Placed} → (Ends l → ⊥) → (why : Refusal) (p : ℕ) → Refused why p ≡ coded (next text (l .end)) → Ahead text l ls → ⊥
   not-ahead n why p h (last l ends) = n ends
   not-ahead n why p h (more l k ls _ _ is a) = let z : _≡_ {A = ℕ} 0 1 = cc in omega arith
+
+-- ---- what holds of each
+
+module _ (most : Sizes) (text : List ℕ) (P : lexemes.Lexeme → Type 0) (holds : (at : ℕ) (m : Placed) (e : ℕ) → next text at ≡ given (lexeme m e) → P (m .what)) (at-end : P (fixed end)) where
+  abbrev Each-one : List Placed → Type 0
+  Each-one ls = Each (λ (l : Placed). P (l .what)) ls
+
+  each-from : (fuel at : ℕ) (ls : List Placed) → lexemes-from most text fuel at ≡ given ls → Each-one ls
+  unfolding lexemes-from pass
+  each-from zero at ls is = let e : [] ≡ ls = cc in subst Each-one e nil
+  each-from (suc fuel) at ls is = by-answer (λ e rest. each-from fuel e rest) (next text at) refl
+    where
+      Later : Type 0
+      Later = (e : ℕ) (rest : List Placed) → lexemes-from most text fuel e ≡ given rest → Each-one rest
+
+      one-more : Later → (m : Placed) (e : ℕ) → next text at ≡ given (lexeme m e) → (r : Answer (List Placed)) → lexemes-from most text fuel e ≡ r → pass r (λ rest. given (m ∷ rest)) ≡ given ls → Each-one ls
+      one-more later m e n (given rest) r k = let z : m ∷ rest ≡ ls = cc in subst Each-one z (holds at m e n also later e rest r)
+      one-more later m e n (refused why p) r k = absurd (no-refusal k)
+
+      by-size : Later → (m : Placed) (e : ℕ) → next text at ≡ given (lexeme m e) → (t : Bool) → too-large most (m .what) ≡ t → Each-one ls
+      by-size later m e n true t = absurd (no-refusal (sym (from-large most text fuel at m e n t) ∙ is))
+      by-size later m e n false t = one-more later m e n (lexemes-from most text fuel e) refl (sym (from-one most text fuel at m e n t) ∙ is)
+
+      by-answer : Later → (a : Answer Next) → next text at ≡ a → Each-one ls
+      by-answer later (given (lexeme m e)) n = by-size later m e n (too-large most (m .what)) refl
+      by-answer later (given (nothing p)) n = let z : record { place = p; what = fixed end } ∷ [] ≡ ls = cc (from-none most text fuel at p n) in subst Each-one z (at-end also nil)
+      by-answer later (refused why p) n = absurd (no-refusal (sym (from-refused most text fuel at why p n) ∙ is))
+
+  pub lexemes-each : (ls : List Placed) → lexemes most text ≡ given ls → Each-one ls
+  unfolding lexemes
+  lexemes-each ls is = each-from (suc (length text)) 0 ls is

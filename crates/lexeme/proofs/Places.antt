@@ -49,12 +49,17 @@ module _ (text : List ℕ) (p : ℕ) where
 
 -- ---- what it is
 
+-- between the string's place and the next quote are its bytes
+pub record Closed (text : List ℕ) (q : Quoted) : Type 0 where
+  pub inside : run no-quote (drop (q .place) text) ≡ q .inside
+  pub quote : length (q .inside) < length (drop (q .place) text)
+
 -- a lexeme as it is written from the place p up to e; a literal is written in more than one way
 abbrev Written : List ℕ → ℕ → ℕ → Lexeme → Type 0
 Written text p e (lit n) = Unit {0}
 Written text p e (name x) = x ≡ record { letters = part text p e; place = p }
 Written text p e (class x) = x ≡ record { letters = part text p e; place = p }
-Written text p e (string q) = (p + 1 < e) × (q ≡ record { inside = part text (p + 1) (e - 1); place = p + 1 })
+Written text p e (string q) = ((p + 1 < e) × (q ≡ record { inside = part text (p + 1) (e - 1); place = p + 1 })) × Closed text q
 Written text p e (fixed f) = eqb (code-of f) (code-of lexemes.end) ≡ false
 
 -- the lexeme l stands in the text up to e
@@ -126,7 +131,7 @@ module _ (text : List ℕ) (p : ℕ) where
         record {
           some = omega arith;
           within = omega (arith, leb-false (length s) n closed, length-drop (p + 1) text);
-          written = (omega arith, ap (λ (x : List ℕ). record { inside = x; place = p + 1 }) (sym (run-part no-quote text (p + 1) (p + n + 2 - 1) (omega arith))));
+          written = ((omega arith, ap (λ (x : List ℕ). record { inside = x; place = p + 1 }) (sym (run-part no-quote text (p + 1) (p + n + 2 - 1) (omega arith)))), record { inside = refl; quote = leb-false (length s) n closed });
         },
       ))
 
@@ -182,7 +187,7 @@ module _ (text : List ℕ) (p e : ℕ) where
   reads most small (lit n) h t = ap lit (min-eq-left (omega (arith, ltb-false (most .literal) n t)))
   reads most small (name x) h t = ap name (sym h)
   reads most small (class x) h t = ap class (sym h)
-  reads most small (string q) h t = ap string (sym (h .1))
+  reads most small (string q) h t = ap string (sym (h .0 .1))
   reads most small (fixed f) h t = ap fixed (fixed-back f)
 
   -- the sizes that the code tests are those of the definitions
@@ -192,8 +197,8 @@ module _ (text : List ℕ) (p e : ℕ) where
   sizes most small (name x) i h = ap (ltb (most .word)) (sym (ap (λ (y : Name). length (y .letters)) h ∙ part-length text p e i))
   sizes most small (class x) i h = ap (ltb (most .word)) (sym (ap (λ (y : Name). length (y .letters)) h ∙ part-length text p e i))
   sizes most small (string q) i h =
-      let n : length (q .inside) ≡ e - 1 - (p + 1) = ap (λ (y : Quoted). length (y .inside)) (h .1) ∙ part-length text (p + 1) (e - 1) (omega arith) in
-      same-test (most .string + 2) (e - p) (most .string) (length (q .inside)) (λ t. omega (arith, h .0)) (λ t. omega arith)
+      let n : length (q .inside) ≡ e - 1 - (p + 1) = ap (λ (y : Quoted). length (y .inside)) (h .0 .1) ∙ part-length text (p + 1) (e - 1) (omega arith) in
+      same-test (most .string + 2) (e - p) (most .string) (length (q .inside)) (λ t. omega (arith, h .0 .0)) (λ t. omega (arith, h .0 .0))
   sizes most small (fixed f) i h = refl
 
   no-end : (w : Lexeme) → Written text p e w → kind-of w ≡ kind.Fixed (code-of lexemes.end) → ⊥

@@ -9,6 +9,9 @@ use mir.Val.{SFits}
 use Rattle.base.specs.Bytes.{bytes, bytes-from}
 use Rattle.instruction.specs.Numbers.{decimal}
 use Rattle.instruction.proofs.Digits.{few-digits}
+use Rattle.base.specs.declared.Refusal.{Refusal}
+use Rattle.base.specs.declared.Refusal.the-variants.{TooLong, NoLexeme, TooLarge, NoProgram, TooDeep, Undeclared, TooManyDeclared, TooMuchCode}
+use Rattle.base.specs.Answers.{number}
 use Rattle.lines.specs.Lines.{counted, refused-line, ending-line, accepted-line, instruction-line}
 
 -- below 2 ^ 64
@@ -28,9 +31,20 @@ pub short-counted : (label : String) (n : ℕ) → Small n → length (counted l
 unfolding counted
 short-counted label n h = omega (arith, length-append (bytes label) (decimal (pos n)), short-natural n h)
 
-pub short-refused : (n p : ℕ) → Small n → Small p → length (refused-line n p) ≤ 96
+small-number : (why : Refusal) → number why ≤ 8
+unfolding number
+small-number TooLong = omega arith
+small-number NoLexeme = omega arith
+small-number TooLarge = omega arith
+small-number NoProgram = omega arith
+small-number TooDeep = omega arith
+small-number Undeclared = omega arith
+small-number TooManyDeclared = omega arith
+small-number TooMuchCode = omega arith
+
+pub short-refused : (why : Refusal) (p : ℕ) → Small p → length (refused-line why p) ≤ 96
 unfolding refused-line bytes bytes-from
-short-refused n p h i = simp length-append (omega (arith, short-counted "refused " n h, short-counted " " p i))
+short-refused why p i = simp length-append (omega (arith, short-counted "refused " (number why) (omega (arith, small-number why)), short-counted " " p i))
 
 pub short-ending : (e s : ℕ) → Small e → Small s → length (ending-line e s) ≤ 95
 unfolding ending-line bytes bytes-from

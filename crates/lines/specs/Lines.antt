@@ -4,6 +4,8 @@ use Prim.Native.Nat.{ℕ, zero, suc, _+_, _*_, _/_}
 use Prim.Native.String.{String}
 use lib.IntN.{ℤ, pos}
 use lib.ListN.{length, getD}
+use Rattle.base.specs.declared.Refusal.{Refusal}
+use Rattle.base.specs.Answers.{number}
 use Rattle.base.specs.Bytes.{bytes}
 use Rattle.instruction.specs.Numbers.{decimal}
 
@@ -15,8 +17,8 @@ unfoldable pub counted : String → ℕ → List ℕ
 counted label n = bytes label ++ decimal (pos n)
 
 -- `refused N P`
-unfoldable pub refused-line : ℕ → ℕ → List ℕ
-refused-line number place = counted "refused " number ++ counted " " place ++ line-end
+unfoldable pub refused-line : Refusal → ℕ → List ℕ
+refused-line why place = counted "refused " (number why) ++ counted " " place ++ line-end
 
 -- `ending E steps S`
 unfoldable pub ending-line : ℕ → ℕ → List ℕ

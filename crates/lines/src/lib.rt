@@ -6,6 +6,7 @@ ghost use lib.ListN.{length};
 ghost use Rattle.instruction.specs.Numbers.{decimal};
 ghost use Rattle.lines.specs.Added.{Added};
 ghost use Rattle.lines.specs.Lines.{refused-line, ending-line, accepted-line, instruction-line, table-lines};
+use base::Refusal;
 
 pub fn put(page: &mut [u8], at: usize, bytes: &[u8]) -> usize
     ensures { λ r. ⌜ Added (now (bytes .entry)) (now (page .entry)) at (now (page .exit)) r ⌝ }
@@ -51,9 +52,10 @@ pub fn put_counted(page: &mut [u8], at: usize, label: &[u8], n: u64) -> usize
 }
 
 // `refused N P`
-pub fn refused(page: &mut [u8], at: usize, number: u8, place: usize) -> usize
-    ensures { λ r. ⌜ Added (refused-line number place) (now (page .entry)) at (now (page .exit)) r ⌝ }
+pub fn refused(page: &mut [u8], at: usize, why: Refusal, place: usize) -> usize
+    ensures { λ r. ⌜ Added (refused-line why place) (now (page .entry)) at (now (page .exit)) r ⌝ }
 {
+    let number = base::number(why);
     let a = put_counted(page, at, b"refused ", number as u64);
     let b = put_counted(page, a, b" ", place as u64);
     put(page, b, b"\n")
