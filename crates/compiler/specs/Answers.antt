@@ -5,14 +5,15 @@ use mathlib.Core.Bool.{cond}
 use Prim.Native.Nat.{ℕ, _+_, _≤_}
 use lib.Dec.{ltb}
 use lib.IntN.{ℤ}
+use lib.ListN.{length}
 use Rattle.base.specs.declared.Refusal.the-variants.{TooMuchCode}
 use Rattle.base.specs.Answers as A
-use Rattle.base.specs.Answers.{given, number}
+use Rattle.base.specs.Answers.{given, refused}
 use Rattle.lexeme.specs.Lexemes.{Name, Placed, Sizes, lexemes}
 use Rattle.sentence.specs.Sentences.{Sen, command}
 use Rattle.sentence.specs.Reader.{read}
 use Rattle.names.specs.Names.{Known, resolved}
-use Rattle.meaning.specs.Layout.{program-code}
+use Rattle.meaning.specs.Layout.{program-code, program-need}
 use Rattle.compiler.specs.declared.Answer.{Answer}
 use Rattle.compiler.specs.declared.Answer.the-variants.{Accepted, Refused}
 use Rattle.compiler.specs.declared.walk.Walk.{Walk}
@@ -20,33 +21,30 @@ use Rattle.compiler.specs.declared.walk.Gives.{Gives}
 use Rattle.compiler.specs.declared.walk.Fault.{Fault}
 use Rattle.compiler.specs.declared.walk.Fault.the-variants as fault
 use Rattle.compiler.specs.Compiled as C
-use Rattle.compiler.specs.Compiled.{Report, report, table-after, measured}
+use Rattle.compiler.specs.Compiled.{code-of-text, table-after, measured}
 use Rattle.compiler.specs.Tables.{emit}
 
--- the paper's number and values for each case
-unfoldable pub reported : Answer → Report
-reported (Accepted counts) = record { number = 0; place = 0; instructions = counts .instructions; cells = counts .cells; need = counts .need }
-reported (Refused n p) = record { number = n; place = p; instructions = 0; cells = 0; need = 0 }
+-- the answer as the code gives it: an accepted text's counts, or the refusal
+unfoldable pub answered : A.Answer C.Accepted → Answer
+answered (given a) = Accepted (record { instructions = length (code-of-text a); cells = a .cells; need = program-need (a .cells) (a .command) })
+answered (refused why p) = Refused why p
 
 -- the answer r, and the table of n numbers, are those of a
 pub record Says (a : A.Answer C.Accepted) (n : ℕ) (r : Answer) (table : List ℤ) : Type 0 where
-  pub answer : reported r ≡ report a
+  pub answer : r ≡ answered a
   pub numbers : table ≡ table-after n a
 
 -- what the sentences decide, whatever the sizes under which the text has these lexemes, if its literals are numbers
 unfoldable pub Measured : ℕ → ℕ → ℕ → List ℕ → Answer → Type 0
 Measured nesting declarations instructions text r =
-    (sizes : Sizes) (ls : List Placed) → sizes .literal ≤ 2147483647 → lexemes sizes text ≡ given ls → reported r ≡ report (measured nesting declarations instructions ls)
+    (sizes : Sizes) (ls : List Placed) → sizes .literal ≤ 2147483647 → lexemes sizes text ≡ given ls → r ≡ answered (measured nesting declarations instructions ls)
 
--- what a whole Program's walk comes to
-unfoldable pub settled-by : ℕ → Walk → Gives → Fault → Report
+-- what a whole Program's walk comes to: the leftmost refusal of a name, too much code, or the counts
+unfoldable pub settled-by : ℕ → Walk → Gives → Fault → Answer
 settled-by limit w g fault.Nothing =
-    cond (ltb limit (w .scope .cells + w .code + 1)) (record { number = number TooMuchCode; place = 0; instructions = 0; cells = 0; need = 0 })
-    (record { number = 0; place = 0; instructions = w .scope .cells + w .code + 1; cells = w .scope .cells; need = w .scope .cells + g .need })
-settled-by limit w g (fault.Is why p) = record { number = number why; place = p; instructions = 0; cells = 0; need = 0 }
-
-unfoldable pub Settles : ℕ → Walk → Gives → Answer → Type 0
-Settles limit w g r = reported r ≡ settled-by limit w g (w .fault)
+    cond (ltb limit (w .scope .cells + w .code + 1)) (Refused TooMuchCode 0)
+    (Accepted (record { instructions = w .scope .cells + w .code + 1; cells = w .scope .cells; need = w .scope .cells + g .need }))
+settled-by limit w g (fault.Is why p) = Refused why p
 
 -- the code of a text that has these cells, written over a table
 unfoldable pub Written : ℕ → ℕ → List ℕ → ℕ → List ℤ → List ℤ → Type 0

@@ -9,9 +9,8 @@ ghost use mathlib.Core.Path.{_≡_};
 ghost use Prim.Native.Nat.{_≤_};
 ghost use lib.ListN.{length};
 ghost use Rattle.limits.specs.Limits.{Sizes};
-ghost use Rattle.base.specs.Answers as answers;
-ghost use Rattle.compiler.specs.Answers.{reported, Says, Measured, Settles, Written};
-ghost use Rattle.compiler.specs.Compiled.{report, judged, compiled};
+ghost use Rattle.compiler.specs.Answers.{answered, Says, Measured, settled-by, Written};
+ghost use Rattle.compiler.specs.Compiled.{judged, compiled};
 ghost use Rattle.compiler.specs.Tables.{opening};
 ghost use Rattle.compiler.specs.Walks.{Set-out, Counted, Reads-program};
 use base::Refusal;
@@ -34,8 +33,8 @@ pub struct Counts {
 
 pub enum Answer {
     Accepted(Counts),
-    // The number and the place.
-    Refused(u8, usize),
+    // Why, and the place.
+    Refused(Refusal, usize),
 }
 
 // DO, one Command, the end; the Command's code begins at a place.
@@ -65,26 +64,19 @@ fn program(text: &[u8], names: &mut [usize], table: &mut [i32], code: usize) -> 
 // Numbers that the declarations take.
 const NAMES: usize = Limits::DECLARATIONS * 4;
 
-// A refusal as it is reported.
-fn refused(why: Refusal, place: usize) -> Answer
-    ensures { λ r. ⌜ reported r ≡ report (answers.refused why place) ⌝ }
-{
-    Answer::Refused(base::number(why), place)
-}
-
 // What a whole Program comes to: a name's refusal, too much code, or its counts.
 fn settled(w: Walk, g: Gives) -> Answer
     requires { ⌜ Counted w g ⌝ }
-    ensures { λ r. do ⌜ Settles (← ⟦Limits::INSTRUCTIONS⟧ .entry) w g r ⌝ }
+    ensures { λ r. do ⌜ r ≡ settled-by (← ⟦Limits::INSTRUCTIONS⟧ .entry) w g (w .fault) ⌝ }
 {
     let fault = w.fault;
     if let Fault::Is(why, place) = fault {
-        return refused(why, place);
+        return Answer::Refused(why, place);
     }
     let scope = w.scope;
     let size = scope.cells + w.code + 1;
     if Limits::INSTRUCTIONS < size {
-        return refused(Refusal::TooMuchCode, 0);
+        return Answer::Refused(Refusal::TooMuchCode, 0);
     }
     Answer::Accepted(Counts {
         instructions: size,
@@ -102,7 +94,7 @@ fn measured(text: &[u8]) -> Answer
     let mut none = [0i32; 1];
     let r = program(text, &mut names, &mut none, 0);
     match r {
-        Read::Refused(why, place) => refused(why, place),
+        Read::Refused(why, place) => Answer::Refused(why, place),
         Read::Done(w, g) => settled(w, g),
     }
 }
@@ -111,14 +103,14 @@ fn measured(text: &[u8]) -> Answer
 pub fn judge(text: &[u8]) -> Answer
     ghost { Sizes }
     requires { λ sizes. do ⌜ record { word = (← ⟦Limits::WORD⟧); string = (← ⟦Limits::STRING⟧); literal = (← ⟦Limits::LITERAL⟧) } ≡ sizes ⌝ }
-    ensures { λ sizes r. do ⌜ reported r ≡ report (judged (record { text = (← ⟦Limits::TEXT⟧ .entry); sizes = sizes; nesting = (← ⟦Limits::NESTING⟧ .entry); declarations = (← ⟦Limits::DECLARATIONS⟧ .entry); instructions = (← ⟦Limits::INSTRUCTIONS⟧ .entry) }) (now (text .entry))) ⌝ }
+    ensures { λ sizes r. do ⌜ r ≡ answered (judged (record { text = (← ⟦Limits::TEXT⟧ .entry); sizes = sizes; nesting = (← ⟦Limits::NESTING⟧ .entry); declarations = (← ⟦Limits::DECLARATIONS⟧ .entry); instructions = (← ⟦Limits::INSTRUCTIONS⟧ .entry) }) (now (text .entry))) ⌝ }
 {
     if lexer::too_long(text) {
-        return refused(Refusal::TooLong, 0);
+        return Answer::Refused(Refusal::TooLong, 0);
     }
     let found = lexer::scan(text);
     match found {
-        Found::Refused(why, place) => refused(why, place),
+        Found::Refused(why, place) => Answer::Refused(why, place),
         Found::Is(_) => measured(text),
     }
 }
@@ -160,7 +152,7 @@ pub fn compile(text: &[u8], table: &mut [i32]) -> Answer
         return a;
     };
     if table.len() / 2 < counts.instructions {
-        return refused(Refusal::TooMuchCode, 0);
+        return Answer::Refused(Refusal::TooMuchCode, 0);
     }
     write(text, table, counts.cells);
     a

@@ -18,11 +18,12 @@ pub extern "C" fn o_compile(text: &[u8], table: &mut [i32], report: &mut [u64; 5
 {
     let a = compiler::compile(text, table);
     match a {
-        Answer::Refused(n, p) => {
-            *report = [n as u64, p as u64, 0, 0, 0];
+        Answer::Refused(why, place) => {
+            let number = base::number(why);
+            *report = [number as u64, place as u64, 0, 0, 0];
         }
-        Answer::Accepted(instructions, cells, need) => {
-            *report = [0, 0, instructions as u64, cells as u64, need as u64];
+        Answer::Accepted(c) => {
+            *report = [0, 0, c.instructions as u64, c.cells as u64, c.need as u64];
         }
     }
 }

@@ -1,15 +1,17 @@
 -- Demand 3, from the text's bytes: an accepted text and its own code, run on a stack of at least the need, do what its sentences mean.
-use mathlib.Core.Path.{_≡_, refl, subst}
+use mathlib.Core.Path.{_≡_, refl, subst, _∙_}
 use mathlib.Core.Logic.{_≢_, _↔_}
 use mathlib.Core.List.{List}
-use mathlib.Core.Bool.{Bool, true, false, cond, _||_}
+use mathlib.Core.Bool.{Bool, true, false, cond}
 use Prim.Native.Nat.{ℕ, _≤_, _/_}
 use native.Mathlib.Omega.{arith}
 use lib.Dec.{ltb}
 use lib.IntN.{ℤ}
 use lib.ListN.{length}
 use Rattle.limits.specs.Limits.{Limits}
+use Rattle.base.specs.declared.Refusal.the-variants.{TooMuchCode}
 use Rattle.base.specs.Answers.{Answer, given, refused, pass}
+use Rattle.lexeme.specs.Lexemes.{lexemes}
 use Rattle.sentence.specs.Grammar.{whats, Whole}
 use Rattle.sentence.specs.Reader.{read}
 use Rattle.sentence.proofs.Refusals.{accepts}
@@ -24,35 +26,36 @@ use Rattle.meaning.specs.Cost.{Costs-more-than}
 use Rattle.meaning.specs.Fits.{Fits, Stands}
 use Rattle.meaning.proofs.Whole.{whole}
 use Rattle.meaning.proofs.Budget.{never-bad, budget}
-use Rattle.compiler.specs.Compiled.{Accepted, short-enough, fitting, lexed, laid-out, compiled, code-of-text}
+use Rattle.compiler.specs.Compiled.{Accepted, short-enough, at-most, measured, judged, compiled, code-of-text}
 use Rattle.kit.proofs.Strings.{program-strings}
 
 -- what was given was given by both parts
 given-by : {A B : Type 0} (a : Answer A) (f : A → Answer B) (b : B) → pass a f ≡ given b → (x : A) × (a ≡ given x) × (f x ≡ given b)
 unfolding pass
 given-by (given x) f b e = (x, refl, e)
-given-by (refused n p) f b e = let z : _≡_ {A = ℕ} 0 1 = cc in absurd (omega arith)
+given-by (refused why p) f b e = let z : _≡_ {A = ℕ} 0 1 = cc in absurd (omega arith)
 
-fitting-same : (limit pairs : ℕ) (x a : Accepted) → fitting limit pairs x ≡ given a → x ≡ a
-unfolding fitting
-fitting-same limit pairs x a e = by (ltb limit (length (code-of-text x)) || ltb pairs (length (code-of-text x))) e
+at-most-same : (limit : ℕ) (x a : Accepted) → at-most limit x ≡ given a → x ≡ a
+unfolding at-most
+at-most-same limit x a e = by (ltb limit (length (code-of-text x))) e
   where
-    by : (b : Bool) → cond b (refused 8 0) (given x) ≡ given a → x ≡ a
+    by : (b : Bool) → cond b (refused TooMuchCode 0) (given x) ≡ given a → x ≡ a
     by true q = let z : _≡_ {A = ℕ} 0 1 = cc in absurd (omega arith)
     by false q = cc
 
 module _ (limits : Limits) (text : List ℕ) (n : ℕ) (a : Accepted) (accepted : compiled limits text n ≡ given a) where
   -- the cells of an accepted text's sentences are its own, and its strings stand in the text
   pub fits : Fits text (a .cells) (a .command)
-  unfolding compiled lexed laid-out resolved
+  unfolding compiled judged measured resolved
   fits =
-      let l = given-by (lexed (limits .text) (limits .sizes) text) _ a accepted in
-      let s = given-by (short-enough (limits .text) text) _ (l .0) (l .1) in
-      let r = given-by (read (limits .nesting) (l .0)) _ a (l .2) in
-      let k = given-by (resolved (limits .declarations) (r .0)) _ a (r .2) in
+      let j = given-by (judged limits text) _ a accepted in
+      let s = given-by (short-enough (limits .text) text) _ (j .0) (j .1) in
+      let l = given-by (lexemes (limits .sizes) text) _ (j .0) (s .2) in
+      let r = given-by (read (limits .nesting) (l .0)) _ (j .0) (l .2) in
+      let k = given-by (resolved (limits .declarations) (r .0)) _ (j .0) (r .2) in
       let w : Whole (whats (l .0)) (r .0) = accepts (limits .nesting) (l .0) (r .0) .0 (r .1) .0 in
-      let g = resolved-well (limits .declarations) (Stands text) (r .0) (k .1) (program-strings text (limits .sizes) (l .0) (r .0) (s .2) w) in
-      subst (λ (x : Accepted). Fits text (x .cells) (x .command)) (fitting-same (limits .instructions) (n / 2) _ a (k .2)) (g .each)
+      let g = resolved-well (limits .declarations) (Stands text) (r .0) (k .1) (program-strings text (limits .sizes) (l .0) (r .0) (l .1) w) in
+      subst (λ (x : Accepted). Fits text (x .cells) (x .command)) (at-most-same (limits .instructions) _ (j .0) (k .2) ∙ at-most-same (n / 2) (j .0) a (j .2)) (g .each)
 
   module _ (readings : List ℤ) (room cells budget-given : ℕ) (enough : program-need (a .cells) (a .command) ≤ cells) where
     -- ending, output, readings used and steps are those worked out from the sentences alone

@@ -13,7 +13,7 @@ use Rattle.kit.specs.declared.Outcome.the-variants as outcome
 
 module _ (readings : List ℤ) (budget n : ℕ) (stack : List ℤ) (out : List ℕ) where
   same : {a : Answer Accepted} {r r′ : Outcome} {s s′ : List ℤ} {o o′ : List ℕ} → Comes-to readings budget stack out a r s o → Comes-to readings budget stack out a r′ s′ o′ → (r ≡ r′) × (s ≡ s′) × (o ≡ o′)
-  same (refused-so k p) (refused-so _ _) = (refl, refl, refl)
+  same (refused-so why p) (refused-so _ _) = (refl, refl, refl)
   same (stack-too-short a h) (stack-too-short _ i) = (refl, refl, refl)
   same (stack-too-short a h) (ran _ x i w) = absurd (omega arith)
   same (ran a x i w) (stack-too-short _ h) = absurd (omega arith)

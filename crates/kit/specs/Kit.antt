@@ -6,6 +6,7 @@ use Prim.Native.Nat.{ℕ, _≤_, _<_}
 use lib.Dec.{eqb, leb}
 use lib.IntN.{ℤ}
 use lib.ListN.{length, take}
+use Rattle.base.specs.declared.Refusal.{Refusal}
 use Rattle.base.specs.Answers.{Answer, given, refused}
 use Rattle.instruction.specs.Endings.{normal}
 use Rattle.machine.specs.Machine as M
@@ -27,7 +28,7 @@ need-of a = program-need (a .cells) (a .command)
 module _ (readings : List ℤ) (budget : ℕ) (stack : List ℤ) (out : List ℕ) where
   -- the outcome, and the stack and the room after it
   pub data Comes-to : Answer Accepted → Outcome → List ℤ → List ℕ → Type 0 where
-    refused-so : (n p : ℕ) → Comes-to (refused n p) (Refused n p) stack out
+    refused-so : (why : Refusal) (p : ℕ) → Comes-to (refused why p) (Refused why p) stack out
     stack-too-short : (a : Accepted) → length stack < need-of a → Comes-to (given a) (Needs (need-of a)) stack out
     ran : (a : Accepted) (r : Code.Report) {stack′ : List ℤ} {out′ : List ℕ} → need-of a ≤ length stack → Promise.Ran (worked-out readings (length out) budget a) stack out r stack′ out′ → Comes-to (given a) (Ran r) stack′ out′
 

@@ -4,6 +4,7 @@ ghost use lib.ListN.{length};
 ghost use Rattle.limits.specs.Limits.{Sizes};
 ghost use Rattle.compiler.specs.Compiled.{compiled};
 ghost use Rattle.kit.specs.Kit.{Says, sendable};
+use base::Refusal;
 use compiler::Answer;
 use limits::Limits;
 use machine::Report;
@@ -11,8 +12,8 @@ use machine::Report;
 pub enum Outcome {
     // It ran: ending, steps, readings used and output length.
     Ran(Report),
-    // It was refused: number and place.
-    Refused(u8, usize),
+    // It was refused: why, and the place.
+    Refused(Refusal, usize),
     // It needs so large a stack, and the lent one is shorter.
     Needs(usize),
 }
@@ -32,12 +33,12 @@ pub fn run_text(
 {
     let a = compiler::compile(text, table);
     match a {
-        Answer::Refused(n, p) => Outcome::Refused(n, p),
-        Answer::Accepted(n, _, need) => {
-            if stack.len() < need {
-                return Outcome::Needs(need);
+        Answer::Refused(why, place) => Outcome::Refused(why, place),
+        Answer::Accepted(counts) => {
+            if stack.len() < counts.need {
+                return Outcome::Needs(counts.need);
             }
-            let end = n * 2;
+            let end = counts.instructions * 2;
             Outcome::Ran(machine::run(text, &table[..end], readings, budget, stack, out))
         }
     }

@@ -55,7 +55,7 @@ pub record Closed (text : List ℕ) (q : Quoted) : Type 0 where
   pub quote : length (q .inside) < length (drop (q .place) text)
 
 -- a lexeme as it is written from the place p up to e; a literal is written in more than one way
-abbrev Written : List ℕ → ℕ → ℕ → Lexeme → Type 0
+abbrev pub Written : List ℕ → ℕ → ℕ → Lexeme → Type 0
 Written text p e (lit n) = Unit {0}
 Written text p e (name x) = x ≡ record { letters = part text p e; place = p }
 Written text p e (class x) = x ≡ record { letters = part text p e; place = p }
