@@ -38,9 +38,9 @@ fn many(text: &mut [u8], at: usize, piece: &[u8], n: usize) -> usize
 fn judge(text: &[u8], table: &mut [i32]) {
     let a = compiler::compile(text, table);
     match a {
-        Answer::Accepted(n, cells, need) => say::accepted(n, cells, need),
-        Answer::Refused(n, p) => {
-            say::refused(n, p);
+        Answer::Accepted(counts) => say::accepted(counts),
+        Answer::Refused(why, place) => {
+            say::refused(why, place);
             listings::left(table, 0);
         }
     }

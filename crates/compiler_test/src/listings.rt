@@ -26,15 +26,16 @@ pub fn list(text: &[u8]) {
     let mut table = [7i32; 8192];
     let a = compiler::compile(text, &mut table);
     match a {
-        Answer::Accepted(n, cells, need) => {
-            say::accepted(n, cells, need);
+        Answer::Accepted(counts) => {
+            let n = counts.instructions;
+            say::accepted(counts);
             say::instructions(&table, n);
             if n < 5000 {
                 left(&table, n * 2);
             }
         }
-        Answer::Refused(n, p) => {
-            say::refused(n, p);
+        Answer::Refused(why, place) => {
+            say::refused(why, place);
             left(&table, 0);
         }
     }

@@ -1,4 +1,6 @@
 // What the tests write, by the lines of the programs.
+use base::Refusal;
+use compiler::Counts;
 use libc::STDOUT_FILENO;
 
 fn write(page: &[u8], n: usize) {
@@ -7,15 +9,15 @@ fn write(page: &[u8], n: usize) {
     }
 }
 
-pub fn accepted(instructions: usize, cells: usize, need: usize) {
+pub fn accepted(c: Counts) {
     let mut page = [0u8; 96];
-    let n = lines::accepted(&mut page, 0, instructions, cells, need);
+    let n = lines::accepted(&mut page, 0, c.instructions, c.cells, c.need);
     write(&page, n);
 }
 
-pub fn refused(number: u8, place: usize) {
+pub fn refused(why: Refusal, place: usize) {
     let mut page = [0u8; 96];
-    let n = lines::refused(&mut page, 0, number, place);
+    let n = lines::refused(&mut page, 0, why, place);
     write(&page, n);
 }
 

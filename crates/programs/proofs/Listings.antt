@@ -9,6 +9,8 @@ use Rattle.limits.specs.Limits.{Limits}
 use Rattle.compiler.specs.declared.Answer.{Answer}
 use Rattle.compiler.specs.declared.Answer.the-variants as answer
 use Rattle.compiler.specs.Answers as C
+use Rattle.base.specs.declared.Refusal.{Refusal}
+use Rattle.compiler.specs.declared.Counts.{Counts}
 use Rattle.compiler.specs.Compiled.{compiled}
 use Rattle.kit.proofs.Comes.{took, own-code, refusal}
 use Rattle.lines.specs.Added.{Added}
@@ -19,12 +21,12 @@ use Rattle.programs.specs.Says.{Says}
 use Rattle.programs.proofs.Pages.{said-bytes, said-page, untouched}
 
 module _ (limits : Limits) (text : List ℕ) (n : ℕ) {r : Answer} {table : List ℤ} (s : C.Says (compiled limits text n) n r table) {page page′ : List ℕ} {end : ℕ} where
-  pub listed-refused : {k p : ℕ} → r ≡ answer.Refused k p → length (refused-line k p) ≤ length page → Added (refused-line k p) page 0 page′ end → Says (listed (compiled limits text n)) (record { out = end; err = 0; status = 1 }) page page′ [] []
+  pub listed-refused : {why : Refusal} {p : ℕ} → r ≡ answer.Refused why p → length (refused-line why p) ≤ length page → Added (refused-line why p) page 0 page′ end → Says (listed (compiled limits text n)) (record { out = end; err = 0; status = 1 }) page page′ [] []
   unfolding listed
   listed-refused is short a = rw (refusal limits text n s is) (record { written = said-bytes a short; page = said-page a short; noted = refl; note = untouched []; status = refl })
 
-  module _ {i c m : ℕ} (is : r ≡ answer.Accepted i c m) where
-    pub listed-accepted : length (accepted-line i c m ++ table-lines (take (i * 2) table)) ≤ length page → Added (accepted-line i c m ++ table-lines (take (i * 2) table)) page 0 page′ end → Says (listed (compiled limits text n)) (record { out = end; err = 0; status = 0 }) page page′ [] []
+  module _ {k : Counts} (is : r ≡ answer.Accepted k) where
+    pub listed-accepted : let line = accepted-line (k .instructions) (k .cells) (k .need) ++ table-lines (take (k .instructions * 2) table) in length line ≤ length page → Added line page 0 page′ end → Says (listed (compiled limits text n)) (record { out = end; err = 0; status = 0 }) page page′ [] []
     unfolding listed
     listed-accepted short a =
         let t = took limits text n s is in

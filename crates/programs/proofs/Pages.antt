@@ -12,6 +12,7 @@ use Rattle.machine.specs.Machine.{room-after}
 use Rattle.machine.specs.declared.Report as Code
 use Rattle.kit.specs.Kit.{sendable}
 use Rattle.lines.specs.Added.{Added}
+use Rattle.base.specs.declared.Refusal.{Refusal}
 use Rattle.lines.specs.Lines.{line-end, refused-line, ending-line}
 use Rattle.lines.proofs.Short.{Small, short-ending}
 use Rattle.programs.specs.Programs as P
@@ -54,7 +55,7 @@ sendable-short e output room h = by (eqb e 0 && leb (length output) (length outp
 -- ---- what each program says, by what came
 
 module _ (room : List ℕ) {page page′ : List ℕ} {end : ℕ} {c : Came} where
-  module _ {n p : ℕ} (is : c ≡ came.Refused n p) (short : length (refused-line n p) ≤ length page) (a : Added (refused-line n p) page 0 page′ end) where
+  module _ {why : Refusal} {p : ℕ} (is : c ≡ came.Refused why p) (short : length (refused-line why p) ≤ length page) (a : Added (refused-line why p) page 0 page′ end) where
     pub told-refused : Says (told (with-output c room)) (record { out = end; err = 0; status = 1 }) page page′ [] []
     unfolding told with-output
     told-refused = rw is (record { written = said-bytes a short; page = said-page a short; noted = refl; note = untouched []; status = refl })

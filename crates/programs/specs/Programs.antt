@@ -30,12 +30,12 @@ not-good = 1
 -- ---- what comes of a text
 
 -- the text, with a code table for the most instructions
-unfoldable pub judged : Limits → List ℕ → Answer Accepted
-judged limits text = compiled limits text (limits .instructions * 2)
+unfoldable pub tabled : Limits → List ℕ → Answer Accepted
+tabled limits text = compiled limits text (limits .instructions * 2)
 
 -- the text, run on readings: what is reported, by its sentences alone
 unfoldable pub came : Limits → ℕ → ℕ → List ℕ → List ℤ → Answer Report
-came limits budget room text zs = pass (judged limits text) λ a. given (worked-out zs room budget a)
+came limits budget room text zs = pass (tabled limits text) λ a. given (worked-out zs room budget a)
 
 -- the text, run on the readings of an input
 unfoldable pub came-on : Limits → Station → List ℕ → List ℕ → Answer Report
@@ -45,10 +45,10 @@ came-on limits s text input = came limits (s .budget) (s .room) text (readings (
 
 unfoldable pub listed : Answer Accepted → Said
 listed (given a) = record { out = accepted-line (length (code-of-text a)) (a .cells) (need-of a) ++ table-lines (numbers (code-of-text a)); err = []; status = good }
-listed (refused n p) = record { out = refused-line n p; err = []; status = not-good }
+listed (refused why p) = record { out = refused-line why p; err = []; status = not-good }
 
 unfoldable pub listing : Limits → List ℕ → Said
-listing limits text = listed (judged limits text)
+listing limits text = listed (tabled limits text)
 
 -- ---- the second program: the output, a line end, and how the run ended, or the refusal's line; its status is good exactly with ending 0
 
@@ -57,7 +57,7 @@ status-of ending = cond (eqb ending normal) good not-good
 
 unfoldable pub told : Answer Report → Said
 told (given r) = record { out = r .output ++ line-end ++ ending-line (r .ending) (r .steps); err = []; status = status-of (r .ending) }
-told (refused n p) = record { out = refused-line n p; err = []; status = not-good }
+told (refused why p) = record { out = refused-line why p; err = []; status = not-good }
 
 unfoldable pub station : Limits → Station → List ℕ → List ℕ → Said
 station limits s text input = told (came-on limits s text input)
@@ -66,7 +66,7 @@ station limits s text input = told (came-on limits s text input)
 
 unfoldable pub sent : Answer Report → Said
 sent (given r) = record { out = sendable (r .ending) (length (r .output)) (r .output); err = cond (eqb (r .ending) normal) [] (ending-line (r .ending) (r .steps)); status = status-of (r .ending) }
-sent (refused n p) = record { out = []; err = refused-line n p; status = not-good }
+sent (refused why p) = record { out = []; err = refused-line why p; status = not-good }
 
 unfoldable pub feed : Limits → Station → List ℕ → List ℕ → Said
 feed limits s text input = sent (came-on limits s text input)

@@ -4,6 +4,7 @@ use mathlib.Core.List.{List}
 use Prim.Native.Nat.{ℕ}
 use lib.ListN.{length, take}
 use Rattle.limits.specs.Limits.{Sizes}
+use Rattle.base.specs.declared.Refusal.{Refusal}
 use Rattle.base.specs.Answers.{Answer, given, refused}
 use Rattle.machine.specs.Machine.{Report, room-after}
 use Rattle.machine.specs.Promise.{Reported}
@@ -28,18 +29,18 @@ pub record Says (s : P.Said) (r : Said) (out out′ err err′ : List ℕ) : Typ
 
 -- what came of a text, and the room after its run
 pub data Comes (room : List ℕ) : Answer Report → Came → List ℕ → Type 0 where
-  refused-so : (n p : ℕ) → Comes room (refused n p) (Refused n p) room
+  refused-so : (why : Refusal) (p : ℕ) → Comes room (refused why p) (Refused why p) room
   ran : (w : Report) (r : Code.Report) {room′ : List ℕ} → Reported w room r room′ → Comes room (given w) (Ran r) room′
 
 -- what came, with the output that stands in the room
 unfoldable pub with-output : Came → List ℕ → Answer Report
 with-output (Ran r) room = given (record { ending = r .ending; steps = r .steps; used = r .used; output = take (r .length) room })
-with-output (Refused n p) room = refused n p
+with-output (Refused why p) room = refused why p
 
 -- a refused text leaves the room as it was
 unfoldable pub room-left : Answer Report → List ℕ → List ℕ
 room-left (given w) room = room-after (w .output) room
-room-left (refused n p) room = room
+room-left (refused why p) room = room
 
 -- what is said of what came, and the room after the run
 pub record Tells (say : Answer Report → P.Said) (a : Answer Report) (room : List ℕ) (r : Said) (room′ out out′ err err′ : List ℕ) : Type 0 where

@@ -3,8 +3,9 @@ ghost use mathlib.Core.Path.{_≡_};
 ghost use mathlib.Core.List.{[]};
 ghost use lib.ListN.{length, take};
 ghost use Rattle.limits.specs.Limits.{Sizes};
-ghost use Rattle.programs.specs.Programs.{judged, came, listed, status-of, told, sent};
+ghost use Rattle.programs.specs.Programs.{tabled, came, listed, status-of, told, sent};
 ghost use Rattle.programs.specs.Says.{Given, Says, Comes, Tells, with-output};
+use base::Refusal;
 use compiler::Answer;
 use kit::Outcome;
 use limits::Limits;
@@ -32,7 +33,7 @@ pub const PAGE: usize = Station::ROOM + LINE;
 // What came of a text.
 pub enum Came {
     Ran(Report),
-    Refused(u8, usize),
+    Refused(Refusal, usize),
 }
 
 // The text, run on readings. A table and a stack for the most instructions are enough for every accepted text.
@@ -53,9 +54,9 @@ pub fn lesson(text: &[u8], readings: &[i32], room: &mut [u8; Station::ROOM]) -> 
     );
     match o {
         Outcome::Ran(r) => Came::Ran(r),
-        Outcome::Refused(n, p) => Came::Refused(n, p),
+        Outcome::Refused(why, place) => Came::Refused(why, place),
         // never: the need is at most the instructions
-        Outcome::Needs(n) => Came::Refused(0, n),
+        Outcome::Needs(n) => Came::Refused(Refusal::TooMuchCode, n),
     }
 }
 
@@ -63,19 +64,19 @@ pub fn lesson(text: &[u8], readings: &[i32], room: &mut [u8; Station::ROOM]) -> 
 pub fn listing(text: &[u8], page: &mut [u8; LISTING]) -> Said
     ghost { Sizes }
     requires { λ sizes. do ⌜ record { word = (← ⟦Limits::WORD⟧); string = (← ⟦Limits::STRING⟧); literal = (← ⟦Limits::LITERAL⟧) } ≡ sizes ⌝ }
-    ensures { λ sizes r. do ⌜ Says (listed (judged (record { text = (← ⟦Limits::TEXT⟧ .entry); sizes = sizes; nesting = (← ⟦Limits::NESTING⟧ .entry); declarations = (← ⟦Limits::DECLARATIONS⟧ .entry); instructions = (← ⟦Limits::INSTRUCTIONS⟧ .entry) }) (now (text .entry)))) r (now (page .entry)) (now (page .exit)) [] [] ⌝ }
+    ensures { λ sizes r. do ⌜ Says (listed (tabled (record { text = (← ⟦Limits::TEXT⟧ .entry); sizes = sizes; nesting = (← ⟦Limits::NESTING⟧ .entry); declarations = (← ⟦Limits::DECLARATIONS⟧ .entry); instructions = (← ⟦Limits::INSTRUCTIONS⟧ .entry) }) (now (text .entry)))) r (now (page .entry)) (now (page .exit)) [] [] ⌝ }
 {
     let mut table = [0i32; Limits::INSTRUCTIONS * 2];
     let a = compiler::compile(text, &mut table);
     match a {
-        Answer::Refused(n, p) => Said {
-            out: lines::refused(page, 0, n, p),
+        Answer::Refused(why, place) => Said {
+            out: lines::refused(page, 0, why, place),
             err: 0,
             status: NOT_GOOD,
         },
-        Answer::Accepted(n, cells, need) => {
-            let at = lines::accepted(page, 0, n, cells, need);
-            let end = n * 2;
+        Answer::Accepted(c) => {
+            let at = lines::accepted(page, 0, c.instructions, c.cells, c.need);
+            let end = c.instructions * 2;
             Said {
                 out: lines::instructions(page, at, &table[..end]),
                 err: 0,
@@ -110,8 +111,8 @@ fn tell(c: Came, room: &[u8; Station::ROOM], page: &mut [u8; PAGE]) -> Said
     ensures { λ r. ⌜ Says (told (with-output c (now (room .entry)))) r (now (page .entry)) (now (page .exit)) [] [] ⌝ }
 {
     match c {
-        Came::Refused(n, p) => Said {
-            out: lines::refused(page, 0, n, p),
+        Came::Refused(why, place) => Said {
+            out: lines::refused(page, 0, why, place),
             err: 0,
             status: NOT_GOOD,
         },
@@ -147,9 +148,9 @@ fn send(c: Came, room: &[u8; Station::ROOM], page: &mut [u8; PAGE], note: &mut [
     ensures { λ r. ⌜ Says (sent (with-output c (now (room .entry)))) r (now (page .entry)) (now (page .exit)) (now (note .entry)) (now (note .exit)) ⌝ }
 {
     match c {
-        Came::Refused(n, p) => Said {
+        Came::Refused(why, place) => Said {
             out: 0,
-            err: lines::refused(note, 0, n, p),
+            err: lines::refused(note, 0, why, place),
             status: NOT_GOOD,
         },
         Came::Ran(r) => {

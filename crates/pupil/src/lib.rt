@@ -98,8 +98,8 @@ pub fn show(
     ensures { λ r. do ⌜ Says (shown (record { whole = (← ⟦Window::WHOLE⟧ .entry); last = (← ⟦Window::LAST⟧ .entry); next = (← ⟦Window::NEXT⟧ .entry); rest = (← ⟦Window::REST⟧ .entry) }) n (now (text .entry)) (with-output c (now (room .entry)))) r (now (page .entry)) (now (page .exit)) [] [] ⌝ }
 {
     match c {
-        Came::Refused(number, place) => Said {
-            out: put_refusal(page, n, text, number, place),
+        Came::Refused(why, place) => Said {
+            out: put_refusal(page, n, text, base::number(why), place),
             err: 0,
             status: programs::NOT_GOOD,
         },

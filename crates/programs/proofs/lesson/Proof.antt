@@ -1,6 +1,6 @@
 -- `programs::lesson` meets its contract. Assumes nothing.
 use Rattle.compiler.specs.Compiled.{compiled}
-use Rattle.programs.specs.Programs.{judged}
+use Rattle.programs.specs.Programs.{tabled}
 use Rattle.programs.proofs.Lessons.{came-refused, came-ran, never-needs}
 use mathlib.Core.Path.{refl}
 use borrow.Author.Needs.{needs}
@@ -26,15 +26,15 @@ enum-known-o-3 : tie.Need-enum-known-o-3
 enum-known-o-3 c = search needs
 
 returns : tie.Need-returns
-unfolding judged compiled
+unfolding tabled compiled
 returns c = came-ran _ _ _ _ _ _ refl (rw (c .before .o .given .1) at (c .before .before .before .before .before .run-text .ensures .comes))
 
 returns-2 : tie.Need-returns-2
-unfolding judged compiled
+unfolding tabled compiled
 returns-2 c = came-refused _ _ _ _ _ _ refl (rw (c .before .o2 .given .1) at (c .before .before .before .before .before .run-text .ensures .comes))
 
 returns-3 : tie.Need-returns-3
-unfolding judged compiled
+unfolding tabled compiled
 returns-3 c = absurd (never-needs _ _ _ _ _ _ refl (rw (c .before .o3 .given .1) at (c .before .before .before .before .before .run-text .ensures .comes)))
 
 pub lesson-spec : {M : Type 1} → statement M

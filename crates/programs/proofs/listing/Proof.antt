@@ -10,7 +10,7 @@ use Rattle.kit.proofs.Comes.{room}
 use Rattle.lines.specs.Lines.{table-lines}
 use Rattle.lines.proofs.Adds.{adds-then}
 use Rattle.lines.proofs.Short.{Small, short-refused}
-use Rattle.programs.specs.Programs.{judged}
+use Rattle.programs.specs.Programs.{tabled}
 use Rattle.programs.proofs.Listings.{listed-refused, listed-accepted, listing-short}
 use borrow.Author.Needs.{needs}
 use Rattle.programs.proofs.listing.Statement.{statement}
@@ -47,7 +47,7 @@ instructions-requires : tie.Need-instructions-requires
 instructions-requires c κs = search needs
 
 returns : tie.Need-returns
-unfolding judged compiled
+unfolding tabled compiled
 returns c =
     let n : Small (c .before .before .before .a .given .0 .0) = search needs in
     let p : Small (c .before .before .before .a .given .0 .1 .0) = search needs in
@@ -55,7 +55,7 @@ returns c =
     listed-refused _ _ _ (c .before .before .before .before .before .before .compile .ensures) (c .before .before .before .a .given .1) (omega (arith, short-refused (c .before .before .before .a .given .0 .0) (c .before .before .before .a .given .0 .1 .0) n p, l)) (c .refused .ensures)
 
 returns-2 : tie.Need-returns-2
-unfolding judged compiled
+unfolding tabled compiled
 returns-2 c =
     let i = c .before .before .before .before .before .before .a2 .given .0 .0 in
     let c′ = c .before .before .before .before .before .before .a2 .given .0 .1 .0 in
