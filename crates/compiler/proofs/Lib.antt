@@ -1,10 +1,13 @@
 pub mod Commands
+pub mod Decides
 pub mod Emits
 pub mod Filled
 pub mod Lays
 pub mod Looked
 pub mod Names
 pub mod Passes
+pub mod Programs
 pub mod Reading
 pub mod Replies
 pub mod Stores
+pub mod Unique

@@ -1,0 +1,53 @@
+-- `compiler::judge` meets its contract. Assumes nothing.
+use mathlib.Core.Path.{sym, _∙_}
+use native.Mathlib.Omega.{arith}
+use borrow.Author.Tests.{ltb-false}
+use Rattle.compiler.proofs.Decides.{by-length, by-bytes, by-sentences}
+use borrow.Author.Needs.{needs}
+use Rattle.compiler.proofs.judge.Statement.{statement}
+use Rattle.compiler.proofs.judge.Tie as tie
+
+too-long-requires : tie.Need-too-long-requires
+too-long-requires c κs = search needs
+
+refused-requires : tie.Need-refused-requires
+refused-requires c κs = search needs
+
+returns : tie.Need-returns
+returns c = by-length _ _ _ (sym (c .before .before .too-long .ensures) ∙ c .before .if1 .taken) (c .refused .ensures)
+
+scan-requires : tie.Need-scan-requires
+scan-requires c κs = search needs
+
+enum-known-found : tie.Need-enum-known-found
+enum-known-found c = search needs
+
+refused-requires-2 : tie.Need-refused-requires-2
+refused-requires-2 c κs = search needs
+
+enum-told : tie.Need-enum-told
+enum-told c = search needs
+
+measured-requires : tie.Need-measured-requires
+measured-requires c κs = ltb-false _ _ (sym (c .before .before .before .before .too-long .ensures) ∙ c .before .before .before .if1 .left)
+
+returns-2 : tie.Need-returns-2
+returns-2 c = by-bytes _ _ _ (sym (c .before .before .before .before .before .before .too-long .ensures) ∙ c .before .before .before .before .before .if1 .left) (c .before .before .before .before .scan .ensures) (c .before .before .found .given .1) (c .refused2 .ensures)
+
+returns-3 : tie.Need-returns-3
+returns-3 c = by-sentences _ _ _ (sym (c .before .before .before .before .before .too-long .ensures) ∙ c .before .before .before .before .if1 .left) (c .before .before .before .scan .ensures) (c .before .enum-told .given .1) (omega arith) (c .measured .ensures)
+
+pub judge-spec : {M : Type 1} → statement M
+judge-spec =
+    tie.close
+    (tie.spec
+    too-long-requires
+    refused-requires
+    returns
+    scan-requires
+    enum-known-found
+    refused-requires-2
+    enum-told
+    measured-requires
+    returns-2
+    returns-3)
