@@ -13,7 +13,7 @@ use Rattle.limits.specs.Limits.{Limits}
 use Rattle.base.specs.declared.Refusal.{Refusal}
 use Rattle.base.specs.declared.Refusal.the-variants.{TooLong, TooMuchCode}
 use Rattle.base.specs.Answers as A
-use Rattle.base.specs.Answers.{given, refused, pass, number}
+use Rattle.base.specs.Answers.{given, refused, pass}
 use Rattle.lexeme.specs.Lexemes.{Name, Placed, Sizes, lexemes}
 use Rattle.lexeme.specs.Coded.{scanned}
 use Rattle.lexeme.specs.declared.Lexeme.{Lexeme}
@@ -36,7 +36,7 @@ use Rattle.compiler.specs.declared.walk.Read.the-variants as read
 use Rattle.compiler.specs.declared.Counts.{Counts}
 use Rattle.compiler.specs.declared.Answer.{Answer}
 use Rattle.compiler.specs.declared.Answer.the-variants.{Accepted, Refused}
-use Rattle.compiler.specs.Answers.{reported, Says, Measured, settled-by, Settles, Written}
+use Rattle.compiler.specs.Answers.{answered, Says, Measured, settled-by, Written}
 use Rattle.compiler.specs.Compiled as C
 use Rattle.compiler.specs.Compiled.{short-enough, code-of-text, at-most, measured, judged, compiled, report, filled, table-after}
 use Rattle.compiler.specs.Steps.{start-at}
@@ -45,7 +45,6 @@ use Rattle.compiler.specs.Walks.{standing, stand, named, scope-of, Laid,
 use Rattle.compiler.proofs.Emits.{emit-append, emit-code, emit-one}
 use Rattle.compiler.proofs.Filled.{filled-by-code}
 use Rattle.compiler.proofs.Lays.{never}
-use Rattle.compiler.proofs.Unique.{answer-of, told}
 
 -- ---- the Program
 
@@ -144,8 +143,8 @@ module _ (limit : ℕ) (text names : List ℕ) (table : List ℤ) (cells : ℕ) 
 -- ---- what the sentences decide
 
 -- by 8, or by none: the walk's counts are those of the code
-sized : (limit : ℕ) (v : Walk) (g : Gives) (y : Sen ℕ command) → v .code ≡ size y → g .need ≡ need y → settled-by limit v g fault.Nothing ≡ report (at-most limit (record { command = y; cells = v .scope .cells }))
-unfolding settled-by at-most code-of-text report program-need
+sized : (limit : ℕ) (v : Walk) (g : Gives) (y : Sen ℕ command) → v .code ≡ size y → g .need ≡ need y → settled-by limit v g fault.Nothing ≡ answered (at-most limit (record { command = y; cells = v .scope .cells }))
+unfolding settled-by at-most code-of-text answered program-need
 sized limit v g y s n = rw long (by (ltb limit m))
   where
     cells : ℕ
@@ -157,40 +156,40 @@ sized limit v g y s n = rw long (by (ltb limit m))
     long : length (program-code cells y) ≡ m
     long = laid-program cells y .long ∙ omega arith
 
-    by : (b : Bool) → cond b (record { number = number TooMuchCode; place = 0; instructions = 0; cells = 0; need = 0 }) (record { number = 0; place = 0; instructions = m; cells = cells; need = cells + g .need }) ≡ report (cond b (refused TooMuchCode 0) (given (record { command = y; cells = cells })))
+    by : (b : Bool) → cond b (Refused TooMuchCode 0) (Accepted (record { instructions = m; cells = cells; need = cells + g .need })) ≡ answered (cond b (refused TooMuchCode 0) (given (record { command = y; cells = cells })))
     by true = refl
     by false = rw (long, n)
 
 module _ (nesting instructions : ℕ) (text names : List ℕ) (none : List ℤ) {r : Read} (names′ : List ℕ) (none′ : List ℤ) (d : Reads-program nesting text names none 0 r names′ none′) (a : Answer) where
   -- by 4 or 5
-  pub by-reading : {why : Refusal} {p : ℕ} → r ≡ read.Refused why p → reported a ≡ report (refused why p) → Measured nesting (length names / 4) instructions text a
-  unfolding Measured measured pass
+  pub by-reading : {why : Refusal} {p : ℕ} → r ≡ read.Refused why p → a ≡ Refused why p → Measured nesting (length names / 4) instructions text a
+  unfolding Measured measured pass answered
   by-reading is e sizes ls small lx = rw (not-read nesting text names none 0 names′ none′ d is sizes ls small lx) e
 
   -- by 6 or 7, by 8, or by none of them
-  pub by-naming : {v : Walk} {g : Gives} → r ≡ read.Done v g → Settles instructions v g a → Measured nesting (length names / 4) instructions text a
-  unfolding Measured measured pass Settles
+  pub by-naming : {v : Walk} {g : Gives} → r ≡ read.Done v g → a ≡ settled-by instructions v g (v .fault) → Measured nesting (length names / 4) instructions text a
+  unfolding Measured measured pass
   by-naming {v} {g} is e sizes ls small lx = rw (it .reads sizes ls small lx) (e ∙ by (v .fault) refl)
     where
       it : Ran nesting text names none 0 names′ none′ v g
       it = ran nesting text names none 0 names′ none′ d is
 
-      by : (f : Fault) → v .fault ≡ f → settled-by instructions v g f ≡ report (pass (resolved (length names / 4) (it .tree)) λ k. at-most instructions (record { command = k .what; cells = k .scope .cells }))
-      by (fault.Is why p) f = unfold settled-by report in rw (unnamed it f)
+      by : (f : Fault) → v .fault ≡ f → settled-by instructions v g f ≡ answered (pass (resolved (length names / 4) (it .tree)) λ k. at-most instructions (record { command = k .what; cells = k .scope .cells }))
+      by (fault.Is why p) f = unfold settled-by answered in rw (unnamed it f)
       by fault.Nothing f = let k = settled it f in rw (k .are-known, k .cells) (sized instructions v g (k .known .what) (omega (arith, k .size-is)) (k .need-is))
 
 -- ---- what the bytes decide
 
 module _ (limits : Limits) (text : List ℕ) (a : Answer) where
   -- by 1
-  pub by-length : ltb (limits .text) (length text) ≡ true → reported a ≡ report (refused TooLong 0) → reported a ≡ report (judged limits text)
-  unfolding judged short-enough pass
+  pub by-length : ltb (limits .text) (length text) ≡ true → a ≡ Refused TooLong 0 → a ≡ answered (judged limits text)
+  unfolding judged short-enough pass answered
   by-length h e = rw h e
 
   module _ (short : ltb (limits .text) (length text) ≡ false) {f : Found} (scans : f ≡ scanned text (lexemes (limits .sizes) text)) where
     -- by 2 or 3
-    pub by-bytes : {why : Refusal} {p : ℕ} → f ≡ found.Refused why p → reported a ≡ report (refused why p) → reported a ≡ report (judged limits text)
-    unfolding judged short-enough pass scanned
+    pub by-bytes : {why : Refusal} {p : ℕ} → f ≡ found.Refused why p → a ≡ Refused why p → a ≡ answered (judged limits text)
+    unfolding judged short-enough pass scanned answered
     by-bytes {why} {p} is e = rw (short, by (lexemes (limits .sizes) text) (sym is ∙ scans)) e
       where
         by : (l : A.Answer (List Placed)) → found.Refused why p ≡ scanned text l → l ≡ refused why p
@@ -198,11 +197,11 @@ module _ (limits : Limits) (text : List ℕ) (a : Answer) where
         by (refused i q) h = cc
 
     -- by none of them
-    pub by-sentences : {l : Lexeme} → f ≡ found.Is l → limits .sizes .literal ≤ 2147483647 → Measured (limits .nesting) (limits .declarations) (limits .instructions) text a → reported a ≡ report (judged limits text)
+    pub by-sentences : {l : Lexeme} → f ≡ found.Is l → limits .sizes .literal ≤ 2147483647 → Measured (limits .nesting) (limits .declarations) (limits .instructions) text a → a ≡ answered (judged limits text)
     unfolding judged short-enough pass scanned Measured
     by-sentences {l} is small m = rw short (by (lexemes (limits .sizes) text) refl (sym is ∙ scans))
       where
-        by : (x : A.Answer (List Placed)) → lexemes (limits .sizes) text ≡ x → found.Is l ≡ scanned text x → reported a ≡ report (pass x λ ls. measured (limits .nesting) (limits .declarations) (limits .instructions) ls)
+        by : (x : A.Answer (List Placed)) → lexemes (limits .sizes) text ≡ x → found.Is l ≡ scanned text x → a ≡ answered (pass x λ ls. measured (limits .nesting) (limits .declarations) (limits .instructions) ls)
         by (given ls) e h = m (limits .sizes) ls small e
         by (refused i q) e h = let z : _≡_ {A = ℕ} 0 1 = cc in absurd (omega arith)
 
@@ -261,17 +260,16 @@ accepts limits text a c h cells long =
         let length-is : length (code-of-text (over k)) ≡ c .instructions = ap (λ (x : C.Accepted). length (code-of-text x)) same ∙ long in
         record { short = short; lexed = ls; are-lexed = lx; tree = m; is-read = rd; known = k; are-known = rs; is = h ∙ ap given (sym same); cells = ap (λ (x : C.Accepted). x .cells) same ∙ cells; long = length-is; fits = omega arith }
 
-module _ (limits : Limits) (text : List ℕ) (a : Answer) (e : reported a ≡ report (judged limits text)) {c : Counts} (is : a ≡ Accepted c) where
+module _ (limits : Limits) (text : List ℕ) (a : Answer) (e : a ≡ answered (judged limits text)) {c : Counts} (is : a ≡ Accepted c) where
   accepted : Accepts limits text c
-  unfolding answer-of
+  unfolding answered
   accepted = by (judged limits text) refl e
     where
-      by : (x : A.Answer C.Accepted) → judged limits text ≡ x → reported a ≡ report x → Accepts limits text c
+      by : (x : A.Answer C.Accepted) → judged limits text ≡ x → a ≡ answered x → Accepts limits text c
       by (given b) j h =
-          let t = told (given b) a h in
           let same : c ≡ record { instructions = length (code-of-text b); cells = b .cells; need = program-need (b .cells) (b .command) } = cc in
           accepts limits text b c j (sym (ap (λ (x : Counts). x .cells) same)) (sym (ap (λ (x : Counts). x .instructions) same))
-      by (refused why q) j h = let t = told (refused why q) a h in let z : _≡_ {A = ℕ} 0 1 = cc in absurd (omega arith)
+      by (refused why q) j h = let z : _≡_ {A = ℕ} 0 1 = cc in absurd (omega arith)
 
   -- the code may be written
   pub may-write : (length text ≤ limits .text) × (c .cells ≤ limits .instructions)
@@ -281,23 +279,23 @@ module _ (limits : Limits) (text : List ℕ) (a : Answer) (e : reported a ≡ re
 
 module _ (limits : Limits) (text : List ℕ) (n : ℕ) (table : List ℤ) (zeros : table ≡ replicate n (pos 0)) where
   -- a refused text leaves the table as it was cleared
-  says-refused : {a : A.Answer C.Accepted} {why : Refusal} {p : ℕ} (r : Answer) → a ≡ refused why p → reported r ≡ report (refused why p) → Says a n r table
-  unfolding table-after filled
+  says-refused : {a : A.Answer C.Accepted} {why : Refusal} {p : ℕ} (r : Answer) → a ≡ refused why p → r ≡ Refused why p → Says a n r table
+  unfolding table-after filled answered
   says-refused r h e = rw h (record { answer = e; numbers = rw (zeros, sub-zero n) })
 
-  module _ (a : Answer) (e : reported a ≡ report (judged limits text)) where
+  module _ (a : Answer) (e : a ≡ answered (judged limits text)) where
     -- by what `judge` decides
-    pub by-judging : {k p : ℕ} → a ≡ Refused k p → Says (compiled limits text n) n a table
-    unfolding compiled pass answer-of
-    by-judging {k} {p} is = by (judged limits text) e
+    pub by-judging : {why : Refusal} {p : ℕ} → a ≡ Refused why p → Says (compiled limits text n) n a table
+    unfolding compiled pass answered
+    by-judging is = by (judged limits text) e
       where
-        by : (x : A.Answer C.Accepted) → reported a ≡ report x → Says (pass x (at-most (n / 2))) n a table
-        by (given b) h = let t = told (given b) a h in let z : _≡_ {A = ℕ} 0 1 = cc in absurd (omega arith)
+        by : (x : A.Answer C.Accepted) → a ≡ answered x → Says (pass x (at-most (n / 2))) n a table
+        by (given b) h = let z : _≡_ {A = ℕ} 0 1 = cc in absurd (omega arith)
         by (refused why q) h = says-refused a refl h
 
     module _ {c : Counts} (is : a ≡ Accepted c) where
       -- by 8, for want of room
-      pub by-room : n / 2 < c .instructions → (r : Answer) → reported r ≡ report (refused TooMuchCode 0) → Says (compiled limits text n) n r table
+      pub by-room : n / 2 < c .instructions → (r : Answer) → r ≡ Refused TooMuchCode 0 → Says (compiled limits text n) n r table
       unfolding compiled pass at-most code-of-text
       by-room h r f = let s = accepted limits text a e is in says-refused r (rw (s .is, s .long, lt-ltb (n / 2) (c .instructions) h)) f
 
@@ -309,6 +307,6 @@ module _ (limits : Limits) (text : List ℕ) (n : ℕ) (table : List ℤ) (zeros
           by s =
               rw (s .is, s .long, le-ltb (n / 2) (c .instructions) h)
               (record {
-                answer = sym (ap reported is) ∙ e ∙ ap report (s .is);
+                answer = sym is ∙ e ∙ ap answered (s .is);
                 numbers = w (limits .sizes) (s .lexed) (s .tree) (s .known) small (s .are-lexed) (s .is-read) (s .are-known) (s .cells) ∙ rw (zeros, ← s .cells) (filled-by-code n (program-code (s .known .scope .cells) (s .known .what)) (omega (arith, s .long)));
               })
