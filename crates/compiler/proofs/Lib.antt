@@ -1,3 +1,4 @@
+pub mod Bodies
 pub mod Commands
 pub mod Decides
 pub mod Emits

@@ -1,50 +1,51 @@
+-- `compiler::command::declare` meets its contract. Assumes nothing.
 use borrow.Author.Needs.{needs}
+use native.Mathlib.Omega.{arith}
+use denote.Ref.{now}
+use mir.Facts.{toZ-ofZ}
+use Rattle.compiler.specs.Steps.{one-more, Declares-ahead}
+use Rattle.compiler.specs.Walks.{Reads}
+use Rattle.compiler.proofs.Bodies.{not-name, given-next, name-given}
+use Rattle.compiler.proofs.Commands.{none-declared}
 use Rattle.compiler.proofs.command.declare.Statement.{statement}
 use Rattle.compiler.proofs.command.declare.Tie as tie
-use Rattle.compiler.proofs.command.declare.Reads as reads
-use Rattle.compiler.proofs.command.declare.Lts as lts
-use Rattle.compiler.proofs.naming.declared.Reads as declared-reads
-use Rattle.compiler.proofs.walk.advance.Reads as advance-reads
-use Rattle.compiler.proofs.walk.emitted.Reads as emitted-reads
 
 enum-told : tie.Need-enum-told
 enum-told c = search needs
 
--- src/command.rt:73:9
 returns : tie.Need-returns
-returns c = ?
+unfolding Reads
+returns c = none-declared (c .before .before .before .before .pre .stands) _ (not-name (c .match .keys2))
 
--- src/command.rt:76:9
 emitted-requires : tie.Need-emitted-requires
 emitted-requires c κs = search needs
 
--- src/command.rt:77:62
 cast-emitted : tie.Need-cast-emitted
 cast-emitted c = search needs
 
--- src/command.rt:77:9
 emitted-requires-2 : tie.Need-emitted-requires-2
-emitted-requires-2 c κs = ?
+unfolding one-more
+emitted-requires-2 c κs = rw (c .before .before .before .emitted .ensures .0) (omega (arith, c .before .before .before .before .before .before .before .before .before .before .before .pre .code, c .before .before .before .before .before .before .before .before .before .before .before .pre .stands .order, c .before .before .before .before .before .before .before .before .before .before .before .pre .stands .within, c .before .before .before .before .before .before .before .before .before .before .before .pre .short))
 
--- src/command.rt:78:25
 declared-requires : tie.Need-declared-requires
 declared-requires c κs = search needs
 
--- src/command.rt:78:5
-advance-requires : tie.Need-advance-requires
-advance-requires c κs = ?
+-- the name is declared after two instructions
+given : (c : tie.After-declared) → Declares-ahead (now (c .before .before .before .before .before .before .before .before .before .before .before .before .before .before .before .args .names)) (one-more (one-more (c .before .before .before .before .before .before .before .before .before .before .before .before .before .before .before .args .w))) (c .declared .result) (c .declared .last .0)
+given c = rw (c .before .before .before .emitted2 .ensures .0, c .before .before .before .before .before .before .before .emitted .ensures .0) at (c .declared .ensures)
 
--- src/command.rt:66:1
+advance-requires : tie.Need-advance-requires
+advance-requires c κs = rw (given-next _ _ _ _ (given (c .before .before))) (c .before .before .before .before .before .before .before .before .before .before .before .before .before .before .before .before .before .pre .stands .within)
+
 same-length : tie.Need-same-length
 same-length c = search needs
 
--- src/command.rt:66:1
 same-length-2 : tie.Need-same-length-2
 same-length-2 c = search needs
 
--- src/command.rt:66:1
 returns-2 : tie.Need-returns-2
-returns-2 c = ?
+unfolding one-more
+returns-2 c = rw (c .before .before .before .before .before .before .emitted2 .ensures .1, c .before .before .before .before .before .before .before .before .before .before .emitted .ensures .0, c .before .before .before .before .before .before .before .before .before .before .emitted .ensures .1, toZ-ofZ (cast-emitted (c .before .before .before .before .before .before .before))) (name-given (c .before .before .before .before .before .before .before .before .before .before .before .before .before .before .before .before .before .before .pre) _ (c .before .before .before .before .before .before .before .before .before .before .before .before .before .enum-told .given .1) _ _ (given (c .before .before .before)) _ (c .advance .ensures))
 
 pub declare-spec : {M : Type 1} → statement M
 declare-spec =

@@ -1,46 +1,41 @@
+-- `compiler::command::print_string` meets its contract. Assumes nothing.
 use borrow.Author.Needs.{needs}
+use mir.Facts.{toZ-ofZ}
+use Rattle.compiler.specs.Steps.{one-more}
+use Rattle.compiler.specs.Walks.{Reads}
+use Rattle.compiler.proofs.Bodies.{not-string, printed}
+use Rattle.compiler.proofs.Commands.{no-quoted}
 use Rattle.compiler.proofs.command.print_string.Statement.{statement}
 use Rattle.compiler.proofs.command.print_string.Tie as tie
-use Rattle.compiler.proofs.command.print_string.Reads as reads
-use Rattle.compiler.proofs.command.print_string.Lts as lts
-use Rattle.compiler.proofs.command.printing.Reads as printing-reads
-use Rattle.compiler.proofs.walk.advance.Reads as advance-reads
-use Rattle.compiler.proofs.walk.emitted.Reads as emitted-reads
 
 enum-told : tie.Need-enum-told
 enum-told c = search needs
 
--- src/command.rt:59:9
 returns : tie.Need-returns
-returns c = ?
+unfolding Reads
+returns c = no-quoted (c .before .before .before .before .pre .stands) _ _ (not-string (c .match .keys2))
 
--- src/command.rt:61:14
 add-s : tie.Need-add-s
 add-s c = search needs
 
--- src/command.rt:61:13
 cast-s : tie.Need-cast-s
 cast-s c = search needs
 
--- src/command.rt:62:49
 printing-requires : tie.Need-printing-requires
 printing-requires c κs = search needs
 
--- src/command.rt:62:25
 emitted-requires : tie.Need-emitted-requires
 emitted-requires c κs = search needs
 
--- src/command.rt:62:5
 advance-requires : tie.Need-advance-requires
-advance-requires c κs = ?
+unfolding one-more
+advance-requires c κs = rw (c .before .emitted .ensures .0) (c .before .before .before .before .before .before .before .before .before .before .pre .stands .within)
 
--- src/command.rt:45:1
 same-length : tie.Need-same-length
 same-length c = search needs
 
--- src/command.rt:45:1
 returns-2 : tie.Need-returns-2
-returns-2 c = ?
+returns-2 c = rw (c .before .before .emitted .ensures .1, toZ-ofZ (record { sfits = c .before .before .before .printing .ok }), c .before .before .before .printing .ensures, toZ-ofZ (cast-s (c .before .before .before .before .before))) (printed (c .before .before .before .before .before .before .before .before .before .before .before .pre) _ _ (c .before .before .before .before .before .before .enum-told .given .1) _ (rw (c .before .before .emitted .ensures .0) at (c .advance .ensures)))
 
 pub print-string-spec : {M : Type 1} → statement M
 print-string-spec =

@@ -1,38 +1,38 @@
+-- `compiler::command::read` meets its contract. Assumes nothing.
 use borrow.Author.Needs.{needs}
+use native.Mathlib.Omega.{arith}
+use Rattle.compiler.specs.Steps.{one-more}
+use Rattle.compiler.specs.Walks.{Reads}
+use Rattle.compiler.proofs.Bodies.{not-name, name-stored}
+use Rattle.compiler.proofs.Commands.{none-read}
+use Rattle.compiler.proofs.Names.{noted-is}
 use Rattle.compiler.proofs.command.read.Statement.{statement}
 use Rattle.compiler.proofs.command.read.Tie as tie
-use Rattle.compiler.proofs.command.read.Reads as reads
-use Rattle.compiler.proofs.command.read.Lts as lts
-use Rattle.compiler.proofs.naming.used.Reads as used-reads
-use Rattle.compiler.proofs.walk.advance.Reads as advance-reads
-use Rattle.compiler.proofs.walk.emitted.Reads as emitted-reads
 
 enum-told : tie.Need-enum-told
 enum-told c = search needs
 
--- src/command.rt:89:9
 returns : tie.Need-returns
-returns c = ?
+unfolding Reads
+returns c = none-read (c .before .before .before .before .pre .stands) _ (not-name (c .match .keys2))
 
--- src/command.rt:91:9
 emitted-requires : tie.Need-emitted-requires
 emitted-requires c κs = search needs
 
--- src/command.rt:94:9
 used-requires : tie.Need-used-requires
-used-requires c κs = ?
+unfolding one-more
+used-requires c κs = rw (c .before .before .emitted .ensures .0) (omega (arith, c .before .before .before .before .before .before .before .before .before .pre .code, c .before .before .before .before .before .before .before .before .before .pre .stands .order, c .before .before .before .before .before .before .before .before .before .pre .stands .within, c .before .before .before .before .before .before .before .before .before .pre .short))
 
--- src/command.rt:92:5
 advance-requires : tie.Need-advance-requires
-advance-requires c κs = ?
+unfolding one-more
+advance-requires c κs = rw (c .before .used .ensures .0, c .before .before .before .before .emitted .ensures .0, noted-is _ _ _) (c .before .before .before .before .before .before .before .before .before .before .before .pre .stands .within)
 
--- src/command.rt:82:1
 same-length : tie.Need-same-length
 same-length c = search needs
 
--- src/command.rt:82:1
 returns-2 : tie.Need-returns-2
-returns-2 c = ?
+unfolding one-more
+returns-2 c = rw (c .before .before .used .ensures .1, c .before .before .before .before .before .emitted .ensures .0, c .before .before .before .before .before .emitted .ensures .1) (name-stored (c .before .before .before .before .before .before .before .before .before .before .before .before .pre) _ (c .before .before .before .before .before .before .before .enum-told .given .1) _ (rw (c .before .before .used .ensures .0, c .before .before .before .before .before .emitted .ensures .0) at (c .advance .ensures)))
 
 pub read-spec : {M : Type 1} → statement M
 read-spec =

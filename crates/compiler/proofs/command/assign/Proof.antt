@@ -1,0 +1,93 @@
+-- `compiler::command::assign` meets its contract. Assumes nothing.
+use borrow.Author.Needs.{needs}
+use mathlib.Core.Path.{refl}
+use denote.Ref.{now}
+use mir.Facts.{toZ-ofZ}
+use Rattle.lexeme.specs.Lexemes.{becomes}
+use Rattle.lexeme.specs.Coded.{code-of}
+use Rattle.compiler.specs.Steps.{Expects}
+use Rattle.compiler.specs.Walks.{Reads}
+use Rattle.compiler.proofs.Bodies.{named-walk, ready-named, no-value, Crossed, crossed, ready-value, value-leads, assigned}
+use Rattle.compiler.proofs.Commands.{assign-way}
+use Rattle.compiler.proofs.Passes.{expression-way}
+use Rattle.compiler.proofs.Replies.{Got, got, done, counts-got}
+use Rattle.compiler.proofs.command.assign.Statement.{statement}
+use Rattle.compiler.proofs.command.assign.Tie as tie
+
+look-up-requires : tie.Need-look-up-requires
+look-up-requires c κs = search needs
+
+noted-requires : tie.Need-noted-requires
+noted-requires c κs = search needs
+
+expect-requires : tie.Need-expect-requires
+expect-requires c κs = rw (c .noted .ensures, c .before .look-up .ensures) (ready-named (c .before .before .before .before .pre) (c .before .before .before .before .args .l) .stands .within)
+
+enum-known-a : tie.Need-enum-known-a
+enum-known-a c = search needs
+
+enum-told : tie.Need-enum-told
+enum-told c = search needs
+
+-- `:=` is expected after the name was looked up
+expects : (c : tie.After-expect) → Expects (now (c .before .before .before .before .before .args .text)) (named-walk (c .before .before .before .before .before .pre) (c .before .before .before .before .before .args .l)) (code-of becomes) 0 (c .expect .result)
+unfolding code-of
+expects c = rw (c .before .noted .ensures, c .before .before .look-up .ensures) at (c .expect .ensures)
+
+returns : tie.Need-returns
+returns c = no-value (c .before .before .before .before .before .before .before .pre) (c .before .before .before .before .before .before .before .args .l) _ _ _ (c .enum-told .given .1) (expects (c .before .before))
+
+becomes-met : (c : tie.After-a) → Crossed (now (c .before .before .before .before .before .before .before .args .text)) (named-walk (c .before .before .before .before .before .before .before .pre) (c .before .before .before .before .before .before .before .args .l)) (c .a .given .0 .0) becomes
+becomes-met c = crossed _ _ _ _ (c .a .given .1) (expects (c .before .before))
+
+expression-requires : tie.Need-expression-requires
+expression-requires c κs = ready-value (c .before .before .before .before .before .before .before .before .before .pre) (c .before .before .before .before .before .before .before .before .before .args .l) (becomes-met (c .before .before))
+
+enum-known-r : tie.Need-enum-known-r
+enum-known-r c = search needs
+
+enum-told-2 : tie.Need-enum-told-2
+enum-told-2 c = search needs
+
+same-length : tie.Need-same-length
+same-length c = search needs
+
+returns-2 : tie.Need-returns-2
+unfolding Reads
+returns-2 c = rw (c .enum-told2 .given .1) (value-leads (c .before .before .before .before .before .before .before .before .before .before .before .before .before .pre) (c .before .before .before .before .before .before .before .before .before .before .before .before .before .args .l) (becomes-met (c .before .before .before .before .before .before)) .refuses _ _ (rw (c .enum-told2 .given .1) at (c .before .before .before .expression .ensures)))
+
+-- the Expression
+value : (c : tie.After-r) → Got expression-way (now (c .before .before .before .before .before .before .before .before .before .before .before .before .before .args .text)) (now (c .before .before .before .before .before .before .before .before .before .before .before .before .before .args .names)) (now (c .before .before .before .before .before .before .before .before .before .before .before .before .before .args .table)) (c .before .before .before .before .before .before .a .given .0 .0) (c .before .before .before .before .before .before .before .before .before .before .before .before .before .args .allow) (now (c .before .before .before .before .before .before .before .before .before .before .before .before .before .args .names)) (c .before .before .before .expression .last .1 .1 .1 .0) (c .r .given .0 .0) (c .r .given .0 .1 .0)
+value c = got expression-way (c .r .given .1) (c .before .before .before .expression .ensures)
+
+operand-requires : tie.Need-operand-requires
+operand-requires c κs = search needs
+
+emitted-requires : tie.Need-emitted-requires
+emitted-requires c κs = counts-got (ready-value (c .before .before .before .before .before .before .before .before .before .before .before .before .before .before .before .before .pre) (c .before .before .before .before .before .before .before .before .before .before .before .before .before .before .before .before .args .l) (becomes-met (c .before .before .before .before .before .before .before .before .before))) (value (c .before .before .before)) .0
+
+same-length-2 : tie.Need-same-length-2
+same-length-2 c = search needs
+
+returns-3 : tie.Need-returns-3
+returns-3 c = rw (c .before .emitted .ensures .0, c .before .emitted .ensures .1, toZ-ofZ (record { sfits = c .before .before .operand .ok }), c .before .before .operand .ensures, c .before .before .before .before .before .before .before .before .before .before .before .before .before .before .before .look-up .ensures) (done (assign-way _) refl (assigned (c .before .before .before .before .before .before .before .before .before .before .before .before .before .before .before .before .before .before .pre) (c .before .before .before .before .before .before .before .before .before .before .before .before .before .before .before .before .before .before .args .l) (becomes-met (c .before .before .before .before .before .before .before .before .before .before .before)) (value (c .before .before .before .before .before))))
+
+pub assign-spec : {M : Type 1} → statement M
+assign-spec =
+    tie.close
+    (tie.spec
+    look-up-requires
+    noted-requires
+    expect-requires
+    enum-known-a
+    enum-told
+    returns
+    expression-requires
+    enum-known-r
+    enum-told-2
+    same-length
+    returns-2
+    operand-requires
+    emitted-requires
+    same-length-2
+    returns-3)
