@@ -1,4 +1,5 @@
 -- `compiler::compile` meets its contract. Assumes nothing.
+use mathlib.Core.Path.{refl}
 use native.Mathlib.Omega.{arith}
 use Rattle.compiler.proofs.Decides.{by-judging, by-room, may-write, by-none}
 use borrow.Author.Needs.{needs}
@@ -23,14 +24,11 @@ same-length c = search needs
 returns : tie.Need-returns
 returns c = by-judging _ _ _ _ (c .before .before .before .before .clear .ensures) _ (c .before .before .judge .ensures) (c .enum-told .given .1)
 
-refused-requires : tie.Need-refused-requires
-refused-requires c κs = search needs
-
 same-length-2 : tie.Need-same-length-2
 same-length-2 c = search needs
 
 returns-2 : tie.Need-returns-2
-returns-2 c = by-room _ _ _ _ (c .before .before .before .before .before .before .before .before .clear .ensures) _ (c .before .before .before .before .before .before .judge .ensures) (c .before .before .before .before .a .given .1) (omega arith) _ (c .refused .ensures)
+returns-2 c = by-room _ _ _ _ (c .before .before .before .before .before .before .before .clear .ensures) _ (c .before .before .before .before .before .judge .ensures) (c .before .before .before .a .given .1) (omega arith) _ refl
 
 write-requires : tie.Need-write-requires
 write-requires c κs = may-write _ _ _ (c .before .before .before .before .before .before .judge .ensures) (c .before .before .before .before .a .given .1)
@@ -51,7 +49,6 @@ compile-spec =
     enum-told
     same-length
     returns
-    refused-requires
     same-length-2
     returns-2
     write-requires

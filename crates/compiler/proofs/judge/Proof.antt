@@ -1,5 +1,5 @@
 -- `compiler::judge` meets its contract. Assumes nothing.
-use mathlib.Core.Path.{sym, _∙_}
+use mathlib.Core.Path.{refl, sym, _∙_}
 use native.Mathlib.Omega.{arith}
 use borrow.Author.Tests.{ltb-false}
 use Rattle.compiler.proofs.Decides.{by-length, by-bytes, by-sentences}
@@ -10,20 +10,14 @@ use Rattle.compiler.proofs.judge.Tie as tie
 too-long-requires : tie.Need-too-long-requires
 too-long-requires c κs = search needs
 
-refused-requires : tie.Need-refused-requires
-refused-requires c κs = search needs
-
 returns : tie.Need-returns
-returns c = by-length _ _ _ (sym (c .before .before .too-long .ensures) ∙ c .before .if1 .taken) (c .refused .ensures)
+returns c = by-length _ _ _ (sym (c .before .too-long .ensures) ∙ c .if1 .taken) refl
 
 scan-requires : tie.Need-scan-requires
 scan-requires c κs = search needs
 
 enum-known-found : tie.Need-enum-known-found
 enum-known-found c = search needs
-
-refused-requires-2 : tie.Need-refused-requires-2
-refused-requires-2 c κs = search needs
 
 enum-told : tie.Need-enum-told
 enum-told c = search needs
@@ -32,7 +26,7 @@ measured-requires : tie.Need-measured-requires
 measured-requires c κs = ltb-false _ _ (sym (c .before .before .before .before .too-long .ensures) ∙ c .before .before .before .if1 .left)
 
 returns-2 : tie.Need-returns-2
-returns-2 c = by-bytes _ _ _ (sym (c .before .before .before .before .before .before .too-long .ensures) ∙ c .before .before .before .before .before .if1 .left) (c .before .before .before .before .scan .ensures) (c .before .before .found .given .1) (c .refused2 .ensures)
+returns-2 c = by-bytes _ _ _ (sym (c .before .before .before .before .before .too-long .ensures) ∙ c .before .before .before .before .if1 .left) (c .before .before .before .scan .ensures) (c .before .found .given .1) refl
 
 returns-3 : tie.Need-returns-3
 returns-3 c = by-sentences _ _ _ (sym (c .before .before .before .before .before .too-long .ensures) ∙ c .before .before .before .before .if1 .left) (c .before .before .before .scan .ensures) (c .before .enum-told .given .1) (omega arith) (c .measured .ensures)
@@ -42,11 +36,9 @@ judge-spec =
     tie.close
     (tie.spec
     too-long-requires
-    refused-requires
     returns
     scan-requires
     enum-known-found
-    refused-requires-2
     enum-told
     measured-requires
     returns-2

@@ -1,4 +1,5 @@
 -- `compiler::measured` meets its contract. Assumes nothing.
+use mathlib.Core.Path.{refl}
 use native.Mathlib.Omega.{arith}
 use Rattle.compiler.proofs.Decides.{counted, by-reading, by-naming}
 use borrow.Author.Needs.{needs}
@@ -17,9 +18,6 @@ program-requires c κs = search needs
 enum-known-r : tie.Need-enum-known-r
 enum-known-r c = search needs
 
-refused-requires : tie.Need-refused-requires
-refused-requires c κs = search needs
-
 enum-known-r-2 : tie.Need-enum-known-r-2
 enum-known-r-2 c = search needs
 
@@ -27,7 +25,7 @@ settled-requires : tie.Need-settled-requires
 settled-requires c κs = counted _ _ _ _ _ _ _ (c .before .before .before .before .before .program .ensures) (c .before .r2 .given .1) (record { short = omega (arith, c .before .before .before .before .before .before .before .before .before .pre); code = omega arith; room = search needs })
 
 returns : tie.Need-returns
-returns c = by-reading _ _ _ _ _ _ _ (c .before .before .before .before .before .before .program .ensures) _ (c .before .before .r .given .1) (c .refused .ensures)
+returns c = by-reading _ _ _ _ _ _ _ (c .before .before .before .before .before .program .ensures) _ (c .before .r .given .1) refl
 
 returns-2 : tie.Need-returns-2
 returns-2 c = by-naming _ _ _ _ _ _ _ (c .before .before .before .before .before .before .program .ensures) _ (c .before .before .r2 .given .1) (c .settled .ensures)
@@ -40,7 +38,6 @@ measured-spec =
     slice-aggregate-program-2
     program-requires
     enum-known-r
-    refused-requires
     enum-known-r-2
     settled-requires
     returns
