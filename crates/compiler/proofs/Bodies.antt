@@ -1,7 +1,7 @@
 -- How the readers of commands go on from what they called: the lexeme that ends a command, an assignment, the first lexeme of a command, the condition before a body, the commands of a block. Assumes nothing.
-use mathlib.Core.Path.{_≡_, refl, sym, ap, subst, _∙_}
+use mathlib.Core.Path.{_≡_, refl, sym, ap, subst}
 use mathlib.Core.List.{List, [], _∷_}
-use mathlib.Core.Bool.{Bool}
+use mathlib.Core.Bool.{Bool, true, false}
 use mathlib.Core.Logic.{inl, inr}
 use Prim.Native.Nat.{ℕ, suc, _+_, _≤_, _<_, max}
 use native.Mathlib.Nat.{le-refl}
@@ -11,28 +11,30 @@ use types.Run.{OneOf, miss}
 use lib.IntN.{ℤ, pos}
 use lib.ListN.{length}
 use Rattle.base.specs.declared.Refusal.{Refusal}
-use Rattle.lexeme.specs.Lexemes.{Name, Fixed, next, becomes}
-use Rattle.lexeme.specs.Coded.{code-of, coded, Ends}
+use Rattle.lexeme.specs.Lexemes.{Name, Fixed, next, becomes, ERROR, close-brace}
+use Rattle.lexeme.specs.Coded.{code-of, coded, fixed-number, Stands}
 use Rattle.lexeme.specs.declared.Kind as code-kind
 use Rattle.lexeme.specs.declared.Kind.the-variants as kind
 use Rattle.lexeme.specs.declared.Lexeme as code
 use Rattle.lexeme.specs.declared.Found.the-variants as reply
 use Rattle.lexeme.proofs.Kind.{the-type}
-use Rattle.sentence.specs.Sentences.{Kind, Sen, declare, input, assign}
+use Rattle.lexeme.proofs.Places.{refused-goes}
+use Rattle.sentence.specs.Sentences.{Kind, Sen, command, declare, input, assign, error, block, single, then}
+use Rattle.sentence.specs.Reader.{Around, State, after-command}
 use Rattle.compiler.specs.declared.walk.Walk.{Walk}
 use Rattle.compiler.specs.declared.walk.Gives.{Gives}
 use Rattle.compiler.specs.declared.walk.Read.{Read}
 use Rattle.compiler.specs.declared.walk.Read.the-variants.{Done, Refused}
-use Rattle.compiler.specs.Steps.{moved-to, one-more, Follows, Past, Advances, Expects, printing-number, cell-of, noted-walk, cell-number, Declares-ahead}
+use Rattle.compiler.specs.Steps.{moved-to, one-more, Follows, Past, Advances, Expects, printing-number, cell-of, noted-walk, cell-number, Declares-ahead, before-body, ended-walk, ended-table, opened-walk, closed-walk, in-scope}
 use Rattle.compiler.specs.Tables.{put}
-use Rattle.compiler.specs.Walks.{name-of, Lays, Ready, Reads, Reads-string, Reads-declare, Reads-read, Reads-assign}
-use Rattle.compiler.proofs.Commands.{string-way, declare-way, read-way, assign-way, quoted-printed, name-declared, name-read, assign-leads, no-becomes}
-use Rattle.compiler.proofs.Lays.{quoted, lays-quoted}
-use Rattle.compiler.proofs.Looked.{quoted-of, name-goes, string-goes}
-use Rattle.compiler.proofs.Names.{noted-is, declared-is, lays-declare, lays-input, lays-assign, ready-noted}
-use Rattle.compiler.proofs.Passes.{expression-way, lost-first}
+use Rattle.compiler.specs.Walks.{name-of, Lays, Ready, Reads, Reads-command, Reads-block, Reads-string, Reads-declare, Reads-read, Reads-assign}
+use Rattle.compiler.proofs.Commands.{command-way, string-way, declare-way, read-way, assign-way, guarded-way, block-way, block-so-far, quoted-printed, name-declared, name-read, assign-leads, no-becomes, guarded-leads, block-first, block-more, block-closed, block-lost, error-read, Begins, begun-leads}
+use Rattle.compiler.proofs.Lays.{quoted, guarded, lead, lays-error, lays-quoted, lays-guarded, lays-single, lays-then, ready-body}
+use Rattle.compiler.proofs.Looked.{quoted-of, going}
+use Rattle.compiler.proofs.Names.{noted-is, declared-is, lays-declare, lays-input, lays-assign, lays-block, ready-noted}
+use Rattle.compiler.proofs.Passes.{expression-way, condition-way, lost-first}
 use Rattle.compiler.proofs.Reading.{Way, Barred, Leads, Met}
-use Rattle.compiler.proofs.Replies.{Got, done, ready-past}
+use Rattle.compiler.proofs.Replies.{Got, done, handed-on, ready-past, counts-got}
 
 -- ---- a lexeme of another kind
 
@@ -50,6 +52,10 @@ module _ {k : code-kind.Kind} where
   not-string t e = miss not-quoted 3 tt (subst (λ (x : code-kind.Kind). OneOf not-quoted (tagOf the-type x)) e t)
 
 -- ---- an advance that ends a construct
+
+-- what follows the lexeme ahead is no lexeme, so that it is not the end
+pub lost-ahead : {k : Kind} {X : Type 0} (way : Way k X) {text : List ℕ} {l : code.Lexeme} (allow : ℕ) {why : Refusal} {p : ℕ} → Stands text l → reply.Refused why p ≡ coded (next text (l .end)) → Barred way text l allow why p
+lost-ahead way {text} {l} allow s e = lost-first way text l allow (refused-goes s e) e
 
 module _ {k : Kind} (way : Way k (Sen Name k)) {text names names′ : List ℕ} {table table′ : List ℤ} {w : Walk} {allow need : ℕ} where
   -- the lexeme ahead of z ends what began at w, or it is followed by no lexeme
@@ -74,7 +80,7 @@ module _ {text names : List ℕ} {w : Walk} {allow : ℕ} (ready : Ready text na
       (λ m f.
       let p = quoted-printed (ready .stands) allow line h f in
       record { what = quoted line (quoted-of text (w .next)); passed = p; laid = lays-quoted line (quoted-of text (w .next)) m refl (p .later) (ready .fine) })
-      (λ why p e. lost-first (string-way line) text (w .next) allow (string-goes (w .next) h) e) r a
+      (λ why p e. lost-ahead (string-way line) allow (ready .stands) e) r a
 
   module _ (h : w .next .kind ≡ kind.Name) where
     pub name-given : (z : Walk) (names′ : List ℕ) → Declares-ahead names (one-more (one-more w)) z names′ → (r : Read) → Advances text z 1 r →
@@ -86,7 +92,7 @@ module _ {text names : List ℕ} {w : Walk} {allow : ℕ} (ready : Ready text na
         (λ m f.
         let p = name-declared (ready .stands) allow h (rw same at f) in
         record { what = declare (name-of text (w .next)); passed = p; laid = lays-declare z m (p .later) (ready .fine) d })
-        (λ why p e. lost-first declare-way text (w .next) allow (name-goes (w .next) h) (rw same at e)) r a
+        (λ why p e. lost-ahead declare-way allow (ready .stands) (rw same at e)) r a
 
     pub name-stored : let c = cell-of text names (one-more w) (w .next) in (r : Read) → Advances text (one-more (noted-walk c (one-more w) (w .next .place))) 1 r →
         Reads-read text names table w allow r names (put (put table (w .code) (pos 16 ∷ pos 0 ∷ [])) (w .code + 1) (pos 4 ∷ pos (cell-number c) ∷ []))
@@ -99,7 +105,7 @@ module _ {text names : List ℕ} {w : Walk} {allow : ℕ} (ready : Ready text na
         (λ m f.
         let p = name-read (ready .stands) allow h (rw same at f) in
         record { what = input (name-of text (w .next)); passed = p; laid = lays-input m (p .later) (ready .fine) })
-        (λ why p e. lost-first read-way text (w .next) allow (name-goes (w .next) h) (rw same at e)) r a
+        (λ why p e. lost-ahead read-way allow (ready .stands) (rw same at e)) r a
 
 -- ---- a fixed lexeme that was expected, and met
 
@@ -149,3 +155,122 @@ module _ {text names : List ℕ} {w : Walk} {allow : ℕ} (ready : Ready text na
           passed = value-leads .passes (value .what) (value .passed);
           laid = lays-assign l (x .next) (omega (arith, ap (λ (m : code.Lexeme). m .place) named-next, ready .stands .order, ap (λ (m : code.Lexeme). m .end) named-next, becomes-met .past .follows .later)) (ready .fine) (subst (λ (u : Walk). Lays text names table u (value .what) names table′ v g) (becomes-met .past .moved) (value .laid));
         }
+
+-- ---- the first lexeme of a command
+
+-- the walk x is after it
+pub record First (text names : List ℕ) (w : Walk) (allow : ℕ) (x : Walk) : Type 0 where
+  pub ready : Ready text names w allow
+  pub past : Past text w x
+
+module _ {text names : List ℕ} {w x : Walk} {allow : ℕ} (f : First text names w allow x) where
+  pub ready-first : {fewer : ℕ} → fewer ≤ allow → Ready text names x fewer
+  ready-first {fewer} h = ready-past (f .ready) fewer h (f .past)
+
+  -- what is read after it is the command
+  pub reads-begun : {deeper : ℕ} {start : Around command → State} → Begins (f .ready .stands) deeper start → {allow′ : ℕ} (table : List ℤ) (q : Read) (names′ : List ℕ) (table′ : List ℤ) → deeper ≤ allow → allow′ ≡ allow →
+      Reads command start after-command text names table x allow′ q names′ table′ → Reads-command text names table w allow q names′ table′
+  reads-begun b table q names′ table′ d e h =
+      handed-on (begun-leads (f .ready .stands) b d e (f .past .follows))
+      (λ m v g p. lead (x .next) (omega (arith, f .ready .stands .order, f .past .follows .later)) (subst (λ (u : Walk). Lays text names table u m names′ table′ v g) (f .past .moved) p)) q h
+
+  pub error-done : {table : List ℤ} → fixed-number (w .next .kind) ≡ code-of ERROR → Got command-way text names table w allow names (put table (x .code) (pos 1 ∷ pos 1 ∷ [])) (one-more x) (record { need = 0 })
+  unfolding moved-to one-more
+  error-done {table} h =
+      let p = error-read (f .ready .stands) allow h (f .past .follows) in
+      subst (λ (u : Walk). Got command-way text names table w allow names (put table (u .code) (pos 1 ∷ pos 1 ∷ [])) (one-more u) (record { need = 0 })) (sym (f .past .moved))
+      (record { what = error; passed = p; laid = lays-error (x .next) (p .later) (f .ready .fine) })
+
+-- ---- a condition, and the lexeme before the body
+
+-- with fewer nestings allowed
+pub ready-inside : {text names : List ℕ} {w : Walk} {allow : ℕ} → Ready text names w (suc allow) → Ready text names w allow
+ready-inside r = record { stands = r .stands; short = r .short; code = r .code; fine = r .fine; allowed = omega (arith, r .allowed) }
+
+before-some : (again : Bool) → code-of (before-body again) ≡ 0 → ⊥
+unfolding before-body code-of
+before-some true z = omega arith
+before-some false z = omega arith
+
+-- by the walk from w to c, and after the lexeme to x
+pub record Headed (again : Bool) (text names : List ℕ) (table : List ℤ) (w : Walk) (allow : ℕ) (table₁ : List ℤ) (c : Walk) (g : Gives) (x : Walk) : Type 0 where
+  pub ready : Ready text names w allow
+  pub test : Got condition-way text names table w allow names table₁ c g
+  pub then : Crossed text c x (before-body again)
+
+module _ {again : Bool} {text names : List ℕ} {table table₁ : List ℤ} {w c x : Walk} {g : Gives} {allow : ℕ} (b : Headed again text names table w allow table₁ c g x) where
+  past-head : c .next .place < x .next .place
+  past-head = omega (arith, b .test .passed .stands .some (going (c .next) (b .then .met .number) (before-some again)), b .then .past .follows .later)
+
+  pub head-small : x .code < 10000000
+  unfolding moved-to
+  head-small = omega (arith, ap (λ (u : Walk). u .code) (b .then .past .moved), counts-got (b .ready) (b .test) .0)
+
+  -- what the body's reader may be called with
+  pub ready-headed : Ready text names (one-more x) allow
+  ready-headed = subst (λ (u : Walk). Ready text names (one-more u) allow) (sym (b .then .past .moved)) (ready-body (b .ready) (b .test .laid) (x .next) past-head (b .then .past .follows .stands))
+
+  pub body-leads : Leads text (w .next) (x .next) (suc allow) (guarded-way again) allow command-way (guarded again (b .test .what))
+  body-leads = guarded-leads allow (b .test .what) (b .test .passed) again (b .then .met)
+
+-- how far the end of the body goes beyond it
+ended-code : (again : Bool) (w : Walk) → ended-walk again w .code ≤ w .code + 1
+unfolding ended-walk one-more
+ended-code true w = le-refl (w .code + 1)
+ended-code false w = omega arith
+
+ended-next : (again : Bool) (w : Walk) → ended-walk again w .next ≡ w .next
+unfolding ended-walk one-more
+ended-next true w = refl
+ended-next false w = refl
+
+-- and a body after them, by the walk to y
+pub record Bodied (again : Bool) (text names : List ℕ) (table : List ℤ) (w : Walk) (allow : ℕ) (c : Walk) (g : Gives) (names₂ : List ℕ) (table₂ : List ℤ) (y : Walk) (h : Gives) : Type 0 where
+  pub table₁ : List ℤ
+  pub x : Walk
+  pub head : Headed again text names table w allow table₁ c g x
+  pub body : Got command-way text names table₁ (one-more x) allow names₂ table₂ y h
+
+module _ {again : Bool} {text names names₂ : List ℕ} {table table₂ : List ℤ} {w c y : Walk} {g h : Gives} {allow : ℕ} (b : Bodied again text names table w allow c g names₂ table₂ y h) where
+  pub body-small : y .code < 10000000
+  body-small = counts-got (ready-headed (b .head)) (b .body) .0
+
+  pub end-small : ended-walk again y .code < 2147483648
+  end-small = omega (arith, body-small, ended-code again y)
+
+  pub guarded-read : let u = ended-walk again y in Got (guarded-way again) text names table w (suc allow) names₂ (put (ended-table again table₂ (y .code) (w .code)) (c .code) (pos 6 ∷ pos (u .code) ∷ [])) u (record { need = max (g .need) (h .need) })
+  unfolding one-more
+  guarded-read =
+      let a = b .head in
+      record {
+        what = guarded again (a .test .what) (b .body .what);
+        passed = rw (ended-next again y) (body-leads a .passes (b .body .what) (b .body .passed));
+        laid = lays-guarded again (b .x .next) (past-head a) (a .test .laid) (subst (λ (u : Walk). Lays text names (b .table₁) (one-more u) (b .body .what) names₂ table₂ y h) (a .then .past .moved) (b .body .laid));
+      }
+
+-- ---- the commands of a block
+
+pub so-far-one : {text names names′ : List ℕ} {table table′ : List ℤ} {w v : Walk} {allow : ℕ} {g : Gives} → Got command-way text names table w allow names′ table′ v g → Got block-so-far text names table w (suc allow) names′ table′ v g
+so-far-one g = record { what = single (g .what); passed = block-first _ _ _ .passes (g .what) (g .passed); laid = lays-single (g .laid) }
+
+module _ {text names names′ : List ℕ} {table table′ : List ℤ} {w v : Walk} {allow : ℕ} {g : Gives} where
+  pub so-far-more : Got block-so-far text names table w (suc allow) names′ table′ v g → (fixed-number (v .next .kind) ≡ code-of close-brace → ⊥) → {names₂ : List ℕ} {table₂ : List ℤ} {y : Walk} {h : Gives} → Got command-way text names′ table′ v allow names₂ table₂ y h →
+      Got block-so-far text names table w (suc allow) names₂ table₂ y (record { need = max (g .need) (h .need) })
+  so-far-more b n q = record { what = then (b .what) (q .what); passed = block-more _ (b .what) (b .passed) n .passes (q .what) (q .passed); laid = lays-then (b .laid) (q .laid) }
+
+  pub so-far-closed : Ready text names w (suc allow) → Got block-so-far text names table (opened-walk w) (suc allow) names′ table′ v g → fixed-number (v .next .kind) ≡ code-of close-brace → (r : Read) → Advances text (closed-walk w v) (g .need) r → Reads-block text names table w allow r names′ table′
+  unfolding moved-to opened-walk closed-walk in-scope
+  so-far-closed ready b n r a =
+      advanced block-way (closed-walk w v)
+      (λ m f. record {
+        what = block (b .what);
+        passed = block-closed allow (b .what) (b .passed) n f;
+        laid = lays-block (ready .fine) (omega (arith, ready .allowed)) (b .laid) m (omega (arith, b .passed .stands .order, f .later));
+      })
+      (λ why p e. block-lost allow (b .what) (b .passed) n e) r a
+
+-- the rounds of its loop lead to the walk `done`, whatever was read before the loop
+pub record More (text : List ℕ) (allow : ℕ) (w : Walk) (names₀ : List ℕ) (table₀ : List ℤ) (done₀ : Walk) (need₀ : ℕ) (names : List ℕ) (table : List ℤ) (done : Walk) (need : ℕ) : Type 0 where
+  pub count-names : length names ≡ length names₀
+  pub count-table : length table ≡ length table₀
+  pub on : (before : List ℕ) (before-table : List ℤ) → Got block-so-far text before before-table w (suc allow) names₀ table₀ done₀ (record { need = need₀ }) → Got block-so-far text before before-table w (suc allow) names table done (record { need = need })

@@ -3,7 +3,7 @@ use mathlib.Core.Path.{_≡_, refl, sym, ap, subst, _∙_}
 use mathlib.Core.List.{List, [], _∷_}
 use mathlib.Core.Bool.{Bool, true, false, cond}
 use Prim.Native.Nat.{ℕ, suc, _+_, _-_, _≤_, _<_, min}
-use native.Mathlib.Nat.{min-eq-left, min-le-right}
+use native.Mathlib.Nat.{add-zero, le-refl, min-eq-left, min-le-right}
 use native.Mathlib.Numerals.{add-one}
 use native.Mathlib.Omega.{arith}
 use borrow.Author.Tests.{leb-false, ltb-true, ltb-false, eqb-false, lt-ltb, le-ltb}
@@ -211,6 +211,11 @@ module _ (text : List ℕ) (p e : ℕ) where
 
 -- ---- what stands next
 
+-- nothing after the text's end
+next-last : (text : List ℕ) → next text (length text) ≡ given (nothing (length text))
+unfolding next run
+next-last text = rw (drop-of-length-le text (le-refl (length text)), add-zero) (sym (here-end text (length text) (le-refl (length text))))
+
 module _ (text : List ℕ) (at : ℕ) where
   -- the place after the separators
   abbrev start : ℕ
@@ -284,3 +289,8 @@ unfolding coded
 coded-refused (given (lexeme m e)) why p h = cc
 coded-refused (given (nothing q)) why p h = cc
 coded-refused (refused w q) why p h = cc
+
+-- after the end nothing is refused
+pub refused-goes : {text : List ℕ} {l : code.Lexeme} {why : Refusal} {p : ℕ} → Stands text l → Refused why p ≡ coded (next text (l .end)) → Ends l → ⊥
+unfolding coded
+refused-goes {text} s h ends = let e = rw (s .last ends, next-last text) at h in let z : _≡_ {A = ℕ} 0 1 = cc in omega arith

@@ -30,14 +30,14 @@ enum-told : tie.Need-enum-told
 enum-told c = search needs
 
 -- `:=` is expected after the name was looked up
-expects : (c : tie.After-expect) → Expects (now (c .before .before .before .before .before .args .text)) (named-walk (c .before .before .before .before .before .pre) (c .before .before .before .before .before .args .l)) (code-of becomes) 0 (c .expect .result)
+expects : (c : tie.After-expect) → let a = c .before .before .before .before .before .args in Expects (now (a .text)) (named-walk (c .before .before .before .before .before .pre) (a .l)) (code-of becomes) 0 (c .expect .result)
 unfolding code-of
 expects c = rw (c .before .noted .ensures, c .before .before .look-up .ensures) at (c .expect .ensures)
 
 returns : tie.Need-returns
 returns c = no-value (c .before .before .before .before .before .before .before .pre) (c .before .before .before .before .before .before .before .args .l) _ _ _ (c .enum-told .given .1) (expects (c .before .before))
 
-becomes-met : (c : tie.After-a) → Crossed (now (c .before .before .before .before .before .before .before .args .text)) (named-walk (c .before .before .before .before .before .before .before .pre) (c .before .before .before .before .before .before .before .args .l)) (c .a .given .0 .0) becomes
+becomes-met : (c : tie.After-a) → let a = c .before .before .before .before .before .before .before .args in Crossed (now (a .text)) (named-walk (c .before .before .before .before .before .before .before .pre) (a .l)) (c .a .given .0 .0) becomes
 becomes-met c = crossed _ _ _ _ (c .a .given .1) (expects (c .before .before))
 
 expression-requires : tie.Need-expression-requires
@@ -57,7 +57,7 @@ unfolding Reads
 returns-2 c = rw (c .enum-told2 .given .1) (value-leads (c .before .before .before .before .before .before .before .before .before .before .before .before .before .pre) (c .before .before .before .before .before .before .before .before .before .before .before .before .before .args .l) (becomes-met (c .before .before .before .before .before .before)) .refuses _ _ (rw (c .enum-told2 .given .1) at (c .before .before .before .expression .ensures)))
 
 -- the Expression
-value : (c : tie.After-r) → Got expression-way (now (c .before .before .before .before .before .before .before .before .before .before .before .before .before .args .text)) (now (c .before .before .before .before .before .before .before .before .before .before .before .before .before .args .names)) (now (c .before .before .before .before .before .before .before .before .before .before .before .before .before .args .table)) (c .before .before .before .before .before .before .a .given .0 .0) (c .before .before .before .before .before .before .before .before .before .before .before .before .before .args .allow) (now (c .before .before .before .before .before .before .before .before .before .before .before .before .before .args .names)) (c .before .before .before .expression .last .1 .1 .1 .0) (c .r .given .0 .0) (c .r .given .0 .1 .0)
+value : (c : tie.After-r) → let a = c .before .before .before .before .before .before .before .before .before .before .before .before .before .args in Got expression-way (now (a .text)) (now (a .names)) (now (a .table)) (c .before .before .before .before .before .before .a .given .0 .0) (a .allow) (now (a .names)) (c .before .before .before .expression .last .1 .1 .1 .0) (c .r .given .0 .0) (c .r .given .0 .1 .0)
 value c = got expression-way (c .r .given .1) (c .before .before .before .expression .ensures)
 
 operand-requires : tie.Need-operand-requires

@@ -31,7 +31,7 @@ declared-requires : tie.Need-declared-requires
 declared-requires c κs = search needs
 
 -- the name is declared after two instructions
-given : (c : tie.After-declared) → Declares-ahead (now (c .before .before .before .before .before .before .before .before .before .before .before .before .before .before .before .args .names)) (one-more (one-more (c .before .before .before .before .before .before .before .before .before .before .before .before .before .before .before .args .w))) (c .declared .result) (c .declared .last .0)
+given : (c : tie.After-declared) → let a = c .before .before .before .before .before .before .before .before .before .before .before .before .before .before .before .args in Declares-ahead (now (a .names)) (one-more (one-more (a .w))) (c .declared .result) (c .declared .last .0)
 given c = rw (c .before .before .before .emitted2 .ensures .0, c .before .before .before .before .before .before .before .emitted .ensures .0) at (c .declared .ensures)
 
 advance-requires : tie.Need-advance-requires

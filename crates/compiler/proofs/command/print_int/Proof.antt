@@ -29,7 +29,7 @@ unfolding Reads
 returns c = rw (c .enum-told .given .1) (print-leads _ _ _ .refuses _ _ (rw (c .enum-told .given .1) at (c .before .before .before .expression .ensures)))
 
 -- the Expression
-value : (c : tie.After-r) → Got expression-way (now (c .before .before .before .before .before .before .before .args .text)) (now (c .before .before .before .before .before .before .before .args .names)) (now (c .before .before .before .before .before .before .before .args .table)) (c .before .before .before .before .before .before .before .args .w) (c .before .before .before .before .before .before .before .args .allow) (now (c .before .before .before .before .before .before .before .args .names)) (c .before .before .before .expression .last .1 .1 .1 .0) (c .r .given .0 .0) (c .r .given .0 .1 .0)
+value : (c : tie.After-r) → let a = c .before .before .before .before .before .before .before .args in Got expression-way (now (a .text)) (now (a .names)) (now (a .table)) (a .w) (a .allow) (now (a .names)) (c .before .before .before .expression .last .1 .1 .1 .0) (c .r .given .0 .0) (c .r .given .0 .1 .0)
 value c = got expression-way (c .r .given .1) (c .before .before .before .expression .ensures)
 
 emitted-requires : tie.Need-emitted-requires

@@ -1,0 +1,574 @@
+-- The readers of commands with bodies meet their contracts. A nesting less is allowed inside, so the calls end. Assumes nothing.
+use Prim.Native.Nat.{ℕ, suc, _+_, _*_, _-_, _<_}
+use mathlib.Core.Path.{refl, sym, _∙_}
+use native.Mathlib.Nat.{le-refl}
+use native.Mathlib.Omega.{arith}
+use borrow.Author.Needs.{needs}
+use borrow.Author.Tests.{ne-eqb}
+use mir.Facts.{toZ-ofZ}
+use denote.Ref.{now}
+use lib.ListN.{length}
+use Rattle.lexeme.specs.Coded.{code-of}
+use Rattle.compiler.specs.Steps.{one-more, in-scope, Expects, before-body, opened-walk, closed-walk}
+use Rattle.compiler.specs.Walks.{Reads, want-nested}
+use Rattle.compiler.proofs.Bodies.{not-name, lost-ahead, crossed, First, ready-first, reads-begun, error-done, ready-inside, Headed, head-small, ready-headed, body-leads, Bodied, body-small, end-small, guarded-read, so-far-one, so-far-more, so-far-closed, More}
+use Rattle.compiler.proofs.Commands.{command-way, guarded-way, block-so-far, guarded-refused, no-body, block-first, block-more, begins-assign, begins-declare, begins-print, begins-line, begins-string, begins-read, begins-nested, too-deep-begun, no-command}
+use Rattle.compiler.proofs.Names.{ready-opened}
+use Rattle.compiler.proofs.Passes.{condition-way}
+use Rattle.compiler.proofs.Replies.{Got, got, done, past, unread, code-fits, ready-got}
+use Rattle.compiler.proofs.Stores.{count-fits}
+use borrow.Fn.Kinds.{In}
+use borrow.Fn.PlainCycle.{Measures, is, falls, and}
+use Rattle.compiler.proofs.command.block.Reads as block
+use Rattle.compiler.proofs.command.block.Kinds as block-kinds
+use Rattle.compiler.proofs.command.+block+command+guarded+nested.Lts-block as block-lts
+use Rattle.compiler.proofs.command.command.Reads as command
+use Rattle.compiler.proofs.command.command.Kinds as command-kinds
+use Rattle.compiler.proofs.command.+block+command+guarded+nested.Lts-command as command-lts
+use Rattle.compiler.proofs.command.guarded.Reads as guarded
+use Rattle.compiler.proofs.command.guarded.Kinds as guarded-kinds
+use Rattle.compiler.proofs.command.+block+command+guarded+nested.Lts-guarded as guarded-lts
+use Rattle.compiler.proofs.command.nested.Reads as nested
+use Rattle.compiler.proofs.command.nested.Kinds as nested-kinds
+use Rattle.compiler.proofs.command.+block+command+guarded+nested.Lts-nested as nested-lts
+use Rattle.compiler.proofs.command.assign.Reads as assign-reads
+use Rattle.compiler.proofs.command.before_body.Reads as before-body-reads
+use Rattle.compiler.proofs.command.declare.Reads as declare-reads
+use Rattle.compiler.proofs.command.ended.Reads as ended-reads
+use Rattle.compiler.proofs.command.print_int.Reads as print-int-reads
+use Rattle.compiler.proofs.command.print_string.Reads as print-string-reads
+use Rattle.compiler.proofs.command.read.Reads as read-reads
+use Rattle.compiler.proofs.expression.condition.Reads as condition-reads
+use Rattle.compiler.proofs.naming.closed.Reads as closed-reads
+use Rattle.compiler.proofs.naming.opened.Reads as opened-reads
+use Rattle.compiler.proofs.walk.advance.Reads as advance-reads
+use Rattle.compiler.proofs.walk.emitted.Reads as emitted-reads
+use Rattle.compiler.proofs.walk.expect.Reads as expect-reads
+use Rattle.compiler.proofs.walk.fixed_ahead.Reads as fixed-ahead-reads
+use Rattle.compiler.proofs.walk.larger.Reads as larger-reads
+use Rattle.compiler.proofs.walk.put.Reads as put-reads
+use Rattle.compiler.proofs.walk.skipped.Reads as skipped-reads
+use Rattle.lexeme.proofs.fixed_of.Reads as fixed-of-reads
+use Rattle.compiler.proofs.command.+block+command+guarded+nested.{statement}
+use Rattle.compiler.proofs.command.+block+command+guarded+nested.Tie.{close}
+
+abbrev μ-block : Measures 3 block-kinds.ps ℕ
+μ-block κs a = a .0 * 3 + 1
+
+abbrev μ-command : Measures 3 command-kinds.ps ℕ
+μ-command κs a = a .0 * 3
+
+abbrev μ-guarded : Measures 3 guarded-kinds.ps ℕ
+μ-guarded κs a = a .0 * 3 + 1
+
+abbrev μ-nested : Measures 3 nested-kinds.ps ℕ
+μ-nested κs a = a .0 * 3 + 2
+
+abbrev block-at : ℕ → In 3 block-kinds.ps
+block-at t = and 3 block-kinds.ps (is 3 block-kinds.ps μ-block t) block.Pre
+
+abbrev block-below : ℕ → In 3 block-kinds.ps
+block-below t = and 3 block-kinds.ps (falls 3 block-kinds.ps _<_ μ-block t) block.Pre
+
+abbrev command-at : ℕ → In 3 command-kinds.ps
+command-at t = and 3 command-kinds.ps (is 3 command-kinds.ps μ-command t) command.Pre
+
+abbrev command-below : ℕ → In 3 command-kinds.ps
+command-below t = and 3 command-kinds.ps (falls 3 command-kinds.ps _<_ μ-command t) command.Pre
+
+abbrev guarded-at : ℕ → In 3 guarded-kinds.ps
+guarded-at t = and 3 guarded-kinds.ps (is 3 guarded-kinds.ps μ-guarded t) guarded.Pre
+
+abbrev guarded-below : ℕ → In 3 guarded-kinds.ps
+guarded-below t = and 3 guarded-kinds.ps (falls 3 guarded-kinds.ps _<_ μ-guarded t) guarded.Pre
+
+abbrev nested-at : ℕ → In 3 nested-kinds.ps
+nested-at t = and 3 nested-kinds.ps (is 3 nested-kinds.ps μ-nested t) nested.Pre
+
+abbrev nested-below : ℕ → In 3 nested-kinds.ps
+nested-below t = and 3 nested-kinds.ps (falls 3 nested-kinds.ps _<_ μ-nested t) nested.Pre
+
+abbrev block-calls : ℕ → block-lts.Claims
+block-calls t = (opened-reads.Asked, opened-reads.Learnt, command-below t, command.Post, fixed-ahead-reads.Asked, fixed-ahead-reads.Learnt, closed-reads.Asked, closed-reads.Learnt, advance-reads.Asked, advance-reads.Learnt, larger-reads.Asked, larger-reads.Learnt)
+
+abbrev command-calls : ℕ → command-lts.Claims
+command-calls t = (advance-reads.Asked, advance-reads.Learnt, assign-reads.Asked, assign-reads.Learnt, fixed-of-reads.Asked, fixed-of-reads.Learnt, emitted-reads.Asked, emitted-reads.Learnt, declare-reads.Asked, declare-reads.Learnt, print-int-reads.Asked, print-int-reads.Learnt, print-string-reads.Asked, print-string-reads.Learnt, read-reads.Asked, read-reads.Learnt, nested-below t, nested.Post)
+
+abbrev guarded-calls : ℕ → guarded-lts.Claims
+guarded-calls t = (condition-reads.Asked, condition-reads.Learnt, before-body-reads.Asked, before-body-reads.Learnt, expect-reads.Asked, expect-reads.Learnt, skipped-reads.Asked, skipped-reads.Learnt, command-below t, command.Post, ended-reads.Asked, ended-reads.Learnt, put-reads.Asked, put-reads.Learnt, larger-reads.Asked, larger-reads.Learnt)
+
+abbrev nested-calls : ℕ → nested-lts.Claims
+nested-calls t = (block-below t, block.Post, guarded-below t, guarded.Post)
+
+abbrev block-Inv-loop : block-lts.InvT-loop
+block-Inv-loop allow text names₀ table₀ w done₀ need₀ names table done need = More text allow (opened-walk w) names₀ table₀ done₀ need₀ names table done need
+
+abbrev block-μ-loop : block-lts.MeasureT-loop
+block-μ-loop allow text names₀ table₀ w done₀ need₀ names table done need = length text - done .next .place
+
+block-opened-requires : (t : ℕ) → block-lts.Need-opened-requires (block-calls t) (block-at t) block.Post block-Inv-loop block-μ-loop
+block-opened-requires t c κs = search needs
+
+block-command-requires : (t : ℕ) → block-lts.Need-command-requires (block-calls t) (block-at t) block.Post block-Inv-loop block-μ-loop
+block-command-requires t c κs = (omega (arith, c .before .before .before .before .before .pre .0), rw (c .opened .ensures) (ready-opened (c .before .before .before .before .before .pre .1)))
+
+block-enum-known-first : (t : ℕ) → block-lts.Need-enum-known-first (block-calls t) (block-at t) block.Post block-Inv-loop block-μ-loop
+block-enum-known-first t c = search needs
+
+block-enum-told : (t : ℕ) → block-lts.Need-enum-told (block-calls t) (block-at t) block.Post block-Inv-loop block-μ-loop
+block-enum-told t c = search needs
+
+block-same-length : (t : ℕ) → block-lts.Need-same-length (block-calls t) (block-at t) block.Post block-Inv-loop block-μ-loop
+block-same-length t c = search needs
+
+block-same-length-2 : (t : ℕ) → block-lts.Need-same-length-2 (block-calls t) (block-at t) block.Post block-Inv-loop block-μ-loop
+block-same-length-2 t c = search needs
+
+block-returns : (t : ℕ) → block-lts.Need-returns (block-calls t) (block-at t) block.Post block-Inv-loop block-μ-loop
+unfolding Reads opened-walk in-scope
+block-returns t c = rw (c .enum-told .given .1) (block-first _ _ _ .refuses _ _ (rw (c .before .before .before .before .before .before .opened .ensures, c .enum-told .given .1) at (c .before .before .before .before .before .command .ensures)))
+
+block-loop-holds : (t : ℕ) → block-lts.Need-loop-holds (block-calls t) (block-at t) block.Post block-Inv-loop block-μ-loop
+block-loop-holds t c = record { count-names = refl; count-table = refl; on = λ before before-table so-far. so-far }
+
+-- the commands read when the loop's test is reached
+block-read : (t : ℕ) (c : block-lts.At-loop (block-calls t) (block-at t) block.Post block-Inv-loop block-μ-loop) → let a = c .before .before .before .before .before .before .before .before .before .before .before .before .before .args in Got block-so-far (now (a .text)) (now (a .names)) (now (a .table)) (opened-walk (a .w)) (suc (a .allow)) (c .loop .names) (c .loop .table) (c .loop .done) (record { need = c .loop .need })
+block-read t c = c .loop .inv .on _ _ (so-far-one (got command-way (c .before .before .first .given .1) (rw (c .before .before .before .before .before .before .before .before .opened .ensures) at (c .before .before .before .before .before .before .before .command .ensures))))
+
+block-fixed-ahead-requires : (t : ℕ) → block-lts.Need-fixed-ahead-requires (block-calls t) (block-at t) block.Post block-Inv-loop block-μ-loop
+block-fixed-ahead-requires t c κs = search needs
+
+block-closed-requires : (t : ℕ) → block-lts.Need-closed-requires (block-calls t) (block-at t) block.Post block-Inv-loop block-μ-loop
+block-closed-requires t c κs = search needs
+
+block-advance-requires : (t : ℕ) → block-lts.Need-advance-requires (block-calls t) (block-at t) block.Post block-Inv-loop block-μ-loop
+unfolding closed-walk in-scope
+block-advance-requires t c κs = rw (c .closed .ensures) (block-read t (c .before .before .before) .passed .stands .within)
+
+block-same-length-3 : (t : ℕ) → block-lts.Need-same-length-3 (block-calls t) (block-at t) block.Post block-Inv-loop block-μ-loop
+block-same-length-3 t c = search needs
+
+block-same-length-4 : (t : ℕ) → block-lts.Need-same-length-4 (block-calls t) (block-at t) block.Post block-Inv-loop block-μ-loop
+block-same-length-4 t c = search needs
+
+block-returns-2 : (t : ℕ) → block-lts.Need-returns-2 (block-calls t) (block-at t) block.Post block-Inv-loop block-μ-loop
+unfolding code-of
+block-returns-2 t c = so-far-closed (c .before .before .before .before .before .before .before .before .before .before .before .before .before .before .before .before .before .pre .1) (block-read t (c .before .before .before .before)) (sym (c .before .before .before .fixed-ahead .ensures) ∙ c .before .before .if1 .taken) _ (rw (c .before .closed .ensures) at (c .advance .ensures))
+
+block-command-requires-2 : (t : ℕ) → block-lts.Need-command-requires-2 (block-calls t) (block-at t) block.Post block-Inv-loop block-μ-loop
+block-command-requires-2 t c κs = (omega (arith, c .before .before .before .before .before .before .before .before .before .before .before .before .before .before .before .before .before .pre .0), ready-got (ready-opened (c .before .before .before .before .before .before .before .before .before .before .before .before .before .before .before .before .before .pre .1)) (block-read t (c .before .before .before .before)))
+
+block-enum-known-r : (t : ℕ) → block-lts.Need-enum-known-r (block-calls t) (block-at t) block.Post block-Inv-loop block-μ-loop
+block-enum-known-r t c = search needs
+
+block-enum-told-2 : (t : ℕ) → block-lts.Need-enum-told-2 (block-calls t) (block-at t) block.Post block-Inv-loop block-μ-loop
+block-enum-told-2 t c = search needs
+
+block-same-length-5 : (t : ℕ) → block-lts.Need-same-length-5 (block-calls t) (block-at t) block.Post block-Inv-loop block-μ-loop
+block-same-length-5 t c = search needs
+
+block-same-length-6 : (t : ℕ) → block-lts.Need-same-length-6 (block-calls t) (block-at t) block.Post block-Inv-loop block-μ-loop
+block-same-length-6 t c = search needs
+
+block-returns-3 : (t : ℕ) → block-lts.Need-returns-3 (block-calls t) (block-at t) block.Post block-Inv-loop block-μ-loop
+unfolding Reads opened-walk in-scope code-of
+block-returns-3 t c = rw (c .enum-told2 .given .1) (block-more _ _ (block-read t (c .before .before .before .before .before .before .before .before .before .before) .passed) (λ h. c .before .before .before .before .before .before .before .before .if1 .left (c .before .before .before .before .before .before .before .before .before .fixed-ahead .ensures ∙ h)) .refuses _ _ (rw (c .enum-told2 .given .1) at (c .before .before .before .before .before .command2 .ensures)))
+
+-- one command more
+block-next : (t : ℕ) (c : block-lts.After-r (block-calls t) (block-at t) block.Post block-Inv-loop block-μ-loop) → let a = c .before .before .before .before .before .before .before .before .before .before .before .before .before .before .before .before .before .before .before .before .before .before .before .args in Got command-way (now (a .text)) (c .before .before .before .before .before .before .before .before .before .before .loop .names) (c .before .before .before .before .before .before .before .before .before .before .loop .table) (c .before .before .before .before .before .before .before .before .before .before .loop .done) (a .allow) (c .before .before .before .before .before .command2 .last .1 .1 .0) (c .before .before .before .before .before .command2 .last .1 .1 .1 .0) (c .r .given .0 .0) (c .r .given .0 .1 .0)
+block-next t c = got command-way (c .r .given .1) (c .before .before .before .before .before .command2 .ensures)
+
+block-larger-requires : (t : ℕ) → block-lts.Need-larger-requires (block-calls t) (block-at t) block.Post block-Inv-loop block-μ-loop
+block-larger-requires t c κs = search needs
+
+block-loop-less : (t : ℕ) → block-lts.Need-loop-less (block-calls t) (block-at t) block.Post block-Inv-loop block-μ-loop
+block-loop-less t c = let g = block-next t (c .before .before) in omega (arith, g .passed .later, g .passed .stands .order, g .passed .stands .within)
+
+block-loop-again : (t : ℕ) → block-lts.Need-loop-again (block-calls t) (block-at t) block.Post block-Inv-loop block-μ-loop
+unfolding code-of
+block-loop-again t c = record {
+  count-names = c .before .before .before .before .before .before .before .command2 .kept .1 .1 .0 ∙ c .before .before .before .before .before .before .before .before .before .before .before .before .loop .inv .count-names;
+  count-table = c .before .before .before .before .before .before .before .command2 .kept .1 .1 .1 .0 ∙ c .before .before .before .before .before .before .before .before .before .before .before .before .loop .inv .count-table;
+  on = λ before before-table so-far. rw (c .larger .ensures) (so-far-more (c .before .before .before .before .before .before .before .before .before .before .before .before .loop .inv .on before before-table so-far) (λ h. c .before .before .before .before .before .before .before .before .before .before .if1 .left (c .before .before .before .before .before .before .before .before .before .before .before .fixed-ahead .ensures ∙ h)) (block-next t (c .before .before)));
+}
+
+command-advance-requires : (t : ℕ) → command-lts.Need-advance-requires (command-calls t) (command-at t) command.Post
+command-advance-requires t c κs = c .before .before .before .pre .1 .stands .within
+
+command-enum-known-a : (t : ℕ) → command-lts.Need-enum-known-a (command-calls t) (command-at t) command.Post
+command-enum-known-a t c = search needs
+
+command-enum-told : (t : ℕ) → command-lts.Need-enum-told (command-calls t) (command-at t) command.Post
+command-enum-told t c = search needs
+
+command-returns : (t : ℕ) → command-lts.Need-returns (command-calls t) (command-at t) command.Post
+unfolding Reads
+command-returns t c = rw (c .enum-told .given .1) (lost-ahead command-way _ (c .before .before .before .before .before .before .pre .1 .stands) (unread _ _ _ (c .before .before .advance .ensures) (c .enum-told .given .1)))
+
+-- the walk after the first lexeme
+command-first : (t : ℕ) (c : command-lts.After-a (command-calls t) (command-at t) command.Post) → let a = c .before .before .before .before .before .before .args in First (now (a .text)) (now (a .names)) (a .w) (a .allow) (c .a .given .0 .0)
+command-first t c = record { ready = c .before .before .before .before .before .before .pre .1; past = past _ _ _ (c .before .before .advance .ensures) (c .a .given .1) }
+
+command-enum-told-2 : (t : ℕ) → command-lts.Need-enum-told-2 (command-calls t) (command-at t) command.Post
+command-enum-told-2 t c = search needs
+
+command-assign-requires : (t : ℕ) → command-lts.Need-assign-requires (command-calls t) (command-at t) command.Post
+command-assign-requires t c κs = ready-first (command-first t (c .before .before .before .before .before)) (le-refl _)
+
+command-same-length : (t : ℕ) → command-lts.Need-same-length (command-calls t) (command-at t) command.Post
+command-same-length t c = search needs
+
+command-same-length-2 : (t : ℕ) → command-lts.Need-same-length-2 (command-calls t) (command-at t) command.Post
+command-same-length-2 t c = search needs
+
+command-returns-2 : (t : ℕ) → command-lts.Need-returns-2 (command-calls t) (command-at t) command.Post
+command-returns-2 t c = reads-begun (command-first t (c .before .before .before .before .before .before .before)) (begins-assign _ (c .before .before .before .before .enum-told2 .given .1)) _ _ _ _ (omega arith) refl (c .before .assign .ensures)
+
+command-fixed-of-requires : (t : ℕ) → command-lts.Need-fixed-of-requires (command-calls t) (command-at t) command.Post
+command-fixed-of-requires t c κs = search needs
+
+command-emitted-requires : (t : ℕ) → command-lts.Need-emitted-requires (command-calls t) (command-at t) command.Post
+command-emitted-requires t c κs = code-fits (ready-first (command-first t (c .before .before .before .before .before)) (le-refl _))
+
+command-declare-requires : (t : ℕ) → command-lts.Need-declare-requires (command-calls t) (command-at t) command.Post
+command-declare-requires t c κs = ready-first (command-first t (c .before .before .before .before .before .before)) (le-refl _)
+
+command-print-int-requires : (t : ℕ) → command-lts.Need-print-int-requires (command-calls t) (command-at t) command.Post
+command-print-int-requires t c κs = ready-first (command-first t (c .before .before .before .before .before .before)) (le-refl _)
+
+command-print-string-requires : (t : ℕ) → command-lts.Need-print-string-requires (command-calls t) (command-at t) command.Post
+command-print-string-requires t c κs = ready-first (command-first t (c .before .before .before .before .before .before)) (le-refl _)
+
+command-print-string-requires-2 : (t : ℕ) → command-lts.Need-print-string-requires-2 (command-calls t) (command-at t) command.Post
+command-print-string-requires-2 t c κs = ready-first (command-first t (c .before .before .before .before .before .before)) (le-refl _)
+
+command-read-requires : (t : ℕ) → command-lts.Need-read-requires (command-calls t) (command-at t) command.Post
+command-read-requires t c κs = ready-first (command-first t (c .before .before .before .before .before .before)) (le-refl _)
+
+command-returns-3 : (t : ℕ) → command-lts.Need-returns-3 (command-calls t) (command-at t) command.Post
+unfolding Reads
+command-returns-3 t c = too-deep-begun _ (begins-nested (c .before .before .before .before .before .before .before .before .before .before .before .pre .1 .stands) (rw (c .before .before .fixed-of .ensures) at (c .before .match3 .keys7))) (omega (arith, c .if1 .taken))
+
+command-sub-nested : (t : ℕ) → command-lts.Need-sub-nested (command-calls t) (command-at t) command.Post
+command-sub-nested t c = omega (arith, c .if1 .left)
+
+command-nested-requires : (t : ℕ) → command-lts.Need-nested-requires (command-calls t) (command-at t) command.Post
+command-nested-requires t c κs = (omega (arith, c .before .before .before .before .before .before .before .before .before .before .before .before .before .pre .0, c .before .before .if1 .left), ready-first (command-first t (c .before .before .before .before .before .before .before)) (omega (arith, c .before .before .if1 .left)))
+
+command-same-length-3 : (t : ℕ) → command-lts.Need-same-length-3 (command-calls t) (command-at t) command.Post
+command-same-length-3 t c = search needs
+
+command-returns-4 : (t : ℕ) → command-lts.Need-returns-4 (command-calls t) (command-at t) command.Post
+unfolding code-of
+command-returns-4 t c = rw (c .before .emitted .ensures .0, c .before .emitted .ensures .1) (done command-way refl (error-done (command-first t (c .before .before .before .before .before .before .before)) (sym (c .before .before .before .before .fixed-of .ensures) ∙ c .before .before .before .match3 .keys1)))
+
+command-same-length-4 : (t : ℕ) → command-lts.Need-same-length-4 (command-calls t) (command-at t) command.Post
+command-same-length-4 t c = search needs
+
+command-same-length-5 : (t : ℕ) → command-lts.Need-same-length-5 (command-calls t) (command-at t) command.Post
+command-same-length-5 t c = search needs
+
+command-returns-5 : (t : ℕ) → command-lts.Need-returns-5 (command-calls t) (command-at t) command.Post
+unfolding code-of
+command-returns-5 t c = reads-begun (command-first t (c .before .before .before .before .before .before .before .before .before .before)) (begins-declare _ (sym (c .before .before .before .before .before .before .before .fixed-of .ensures) ∙ c .before .before .before .before .before .before .match3 .keys2)) _ _ _ _ (omega arith) refl (c .before .before .before .declare .ensures)
+
+command-same-length-6 : (t : ℕ) → command-lts.Need-same-length-6 (command-calls t) (command-at t) command.Post
+command-same-length-6 t c = search needs
+
+command-same-length-7 : (t : ℕ) → command-lts.Need-same-length-7 (command-calls t) (command-at t) command.Post
+command-same-length-7 t c = search needs
+
+command-returns-6 : (t : ℕ) → command-lts.Need-returns-6 (command-calls t) (command-at t) command.Post
+unfolding code-of
+command-returns-6 t c = reads-begun (command-first t (c .before .before .before .before .before .before .before .before)) (begins-print _ (sym (c .before .before .before .before .before .fixed-of .ensures) ∙ c .before .before .before .before .match3 .keys3)) _ _ _ _ (omega arith) refl (c .before .print-int .ensures)
+
+command-same-length-8 : (t : ℕ) → command-lts.Need-same-length-8 (command-calls t) (command-at t) command.Post
+command-same-length-8 t c = search needs
+
+command-same-length-9 : (t : ℕ) → command-lts.Need-same-length-9 (command-calls t) (command-at t) command.Post
+command-same-length-9 t c = search needs
+
+command-returns-7 : (t : ℕ) → command-lts.Need-returns-7 (command-calls t) (command-at t) command.Post
+unfolding code-of
+command-returns-7 t c = reads-begun (command-first t (c .before .before .before .before .before .before .before .before)) (begins-line _ (sym (c .before .before .before .before .before .fixed-of .ensures) ∙ c .before .before .before .before .match3 .keys4)) _ _ _ _ (omega arith) refl (c .before .print-string .ensures)
+
+command-same-length-10 : (t : ℕ) → command-lts.Need-same-length-10 (command-calls t) (command-at t) command.Post
+command-same-length-10 t c = search needs
+
+command-same-length-11 : (t : ℕ) → command-lts.Need-same-length-11 (command-calls t) (command-at t) command.Post
+command-same-length-11 t c = search needs
+
+command-returns-8 : (t : ℕ) → command-lts.Need-returns-8 (command-calls t) (command-at t) command.Post
+unfolding code-of
+command-returns-8 t c = reads-begun (command-first t (c .before .before .before .before .before .before .before .before)) (begins-string _ (sym (c .before .before .before .before .before .fixed-of .ensures) ∙ c .before .before .before .before .match3 .keys5)) _ _ _ _ (omega arith) refl (c .before .print-string2 .ensures)
+
+command-same-length-12 : (t : ℕ) → command-lts.Need-same-length-12 (command-calls t) (command-at t) command.Post
+command-same-length-12 t c = search needs
+
+command-same-length-13 : (t : ℕ) → command-lts.Need-same-length-13 (command-calls t) (command-at t) command.Post
+command-same-length-13 t c = search needs
+
+command-returns-9 : (t : ℕ) → command-lts.Need-returns-9 (command-calls t) (command-at t) command.Post
+unfolding code-of
+command-returns-9 t c = reads-begun (command-first t (c .before .before .before .before .before .before .before .before)) (begins-read _ (sym (c .before .before .before .before .before .fixed-of .ensures) ∙ c .before .before .before .before .match3 .keys6)) _ _ _ _ (omega arith) refl (c .before .read .ensures)
+
+command-same-length-14 : (t : ℕ) → command-lts.Need-same-length-14 (command-calls t) (command-at t) command.Post
+command-same-length-14 t c = search needs
+
+command-same-length-15 : (t : ℕ) → command-lts.Need-same-length-15 (command-calls t) (command-at t) command.Post
+command-same-length-15 t c = search needs
+
+command-returns-10 : (t : ℕ) → command-lts.Need-returns-10 (command-calls t) (command-at t) command.Post
+command-returns-10 t c = reads-begun (command-first t (c .before .before .before .before .before .before .before .before .before .before .before)) (begins-nested _ (rw (c .before .before .before .before .before .before .before .before .fixed-of .ensures) at (c .before .before .before .before .before .before .before .match3 .keys7))) _ _ _ _ (omega (arith, c .before .before .before .before .before .before .if1 .left)) (omega (arith, c .before .before .before .before .before .before .if1 .left)) (rw (c .before .before .before .before .before .before .before .before .fixed-of .ensures) at (c .before .before .before .nested .ensures))
+
+command-returns-11 : (t : ℕ) → command-lts.Need-returns-11 (command-calls t) (command-at t) command.Post
+unfolding Reads code-of
+command-returns-11 t c =
+    let n = c .before .fixed-of .ensures in
+    let rest = c .match3 .rest in
+    no-command (c .before .before .before .before .before .before .before .before .before .before .pre .1 .stands) _ (not-name (c .before .before .match2 .keys2))
+    (λ h. rest .0 .0 .0 .0 .0 .0 .1 (n ∙ h)) (λ h. rest .0 .0 .0 .0 .0 .1 (n ∙ h)) (λ h. rest .0 .0 .0 .0 .1 (n ∙ h)) (λ h. rest .0 .0 .0 .1 (n ∙ h)) (λ h. rest .0 .0 .1 (n ∙ h)) (λ h. rest .0 .1 (n ∙ h)) (λ h. rest .1 (rw n h))
+
+guarded-condition-requires : (t : ℕ) → guarded-lts.Need-condition-requires (guarded-calls t) (guarded-at t) guarded.Post
+guarded-condition-requires t c κs = ready-inside (c .before .before .before .before .pre .1)
+
+guarded-enum-known-r : (t : ℕ) → guarded-lts.Need-enum-known-r (guarded-calls t) (guarded-at t) guarded.Post
+guarded-enum-known-r t c = search needs
+
+guarded-enum-told : (t : ℕ) → guarded-lts.Need-enum-told (guarded-calls t) (guarded-at t) guarded.Post
+guarded-enum-told t c = search needs
+
+guarded-same-length : (t : ℕ) → guarded-lts.Need-same-length (guarded-calls t) (guarded-at t) guarded.Post
+guarded-same-length t c = search needs
+
+guarded-same-length-2 : (t : ℕ) → guarded-lts.Need-same-length-2 (guarded-calls t) (guarded-at t) guarded.Post
+guarded-same-length-2 t c = search needs
+
+guarded-returns : (t : ℕ) → guarded-lts.Need-returns (guarded-calls t) (guarded-at t) guarded.Post
+unfolding Reads
+guarded-returns t c = rw (c .enum-told .given .1) (guarded-refused _ _ _ _ _ _ (rw (c .enum-told .given .1) at (c .before .before .before .condition .ensures)))
+
+-- the condition
+guarded-test : (t : ℕ) (c : guarded-lts.After-r (guarded-calls t) (guarded-at t) guarded.Post) → let a = c .before .before .before .before .before .before .before .before .args in Got condition-way (now (a .text)) (now (a .names)) (now (a .table)) (a .w) (a .allow) (now (a .names)) (c .before .before .before .condition .last .1 .1 .1 .0) (c .r .given .0 .0) (c .r .given .0 .1 .0)
+guarded-test t c = got condition-way (c .r .given .1) (c .before .before .before .condition .ensures)
+
+guarded-before-body-requires : (t : ℕ) → guarded-lts.Need-before-body-requires (guarded-calls t) (guarded-at t) guarded.Post
+guarded-before-body-requires t c κs = search needs
+
+guarded-expect-requires : (t : ℕ) → guarded-lts.Need-expect-requires (guarded-calls t) (guarded-at t) guarded.Post
+guarded-expect-requires t c κs = guarded-test t (c .before .before) .passed .stands .within
+
+guarded-expects : (t : ℕ) (c : guarded-lts.After-expect (guarded-calls t) (guarded-at t) guarded.Post) → let a = c .before .before .before .before .before .before .before .before .before .before .before .args in Expects (now (a .text)) (c .before .before .before .r .given .0 .0) (code-of (before-body (a .again))) 0 (c .expect .result)
+guarded-expects t c = rw (c .before .before-body .ensures) at (c .expect .ensures)
+
+guarded-enum-known-s : (t : ℕ) → guarded-lts.Need-enum-known-s (guarded-calls t) (guarded-at t) guarded.Post
+guarded-enum-known-s t c = search needs
+
+guarded-enum-told-2 : (t : ℕ) → guarded-lts.Need-enum-told-2 (guarded-calls t) (guarded-at t) guarded.Post
+guarded-enum-told-2 t c = search needs
+
+guarded-same-length-3 : (t : ℕ) → guarded-lts.Need-same-length-3 (guarded-calls t) (guarded-at t) guarded.Post
+guarded-same-length-3 t c = search needs
+
+guarded-same-length-4 : (t : ℕ) → guarded-lts.Need-same-length-4 (guarded-calls t) (guarded-at t) guarded.Post
+guarded-same-length-4 t c = search needs
+
+guarded-returns-2 : (t : ℕ) → guarded-lts.Need-returns-2 (guarded-calls t) (guarded-at t) guarded.Post
+unfolding Reads
+guarded-returns-2 t c =
+    let g = guarded-test t (c .before .before .before .before .before) in
+    rw (c .enum-told2 .given .1) (no-body _ (g .what) _ _ _ _ (g .passed) _ (rw (c .enum-told2 .given .1) at (guarded-expects t (c .before .before))))
+
+-- and the lexeme before the body
+guarded-head : (t : ℕ) (c : guarded-lts.After-s (guarded-calls t) (guarded-at t) guarded.Post) → let a = c .before .before .before .before .before .before .before .before .before .before .before .before .before .args in Headed (a .again) (now (a .text)) (now (a .names)) (now (a .table)) (a .w) (a .allow) (c .before .before .before .before .before .before .before .before .condition .last .1 .1 .1 .0) (c .before .before .before .before .before .r .given .0 .0) (c .before .before .before .before .before .r .given .0 .1 .0) (c .s .given .0 .0)
+guarded-head t c = record { ready = ready-inside (c .before .before .before .before .before .before .before .before .before .before .before .before .before .pre .1); test = guarded-test t (c .before .before .before .before .before); then = crossed _ _ _ _ (c .s .given .1) (guarded-expects t (c .before .before)) }
+
+guarded-skipped-requires : (t : ℕ) → guarded-lts.Need-skipped-requires (guarded-calls t) (guarded-at t) guarded.Post
+guarded-skipped-requires t c κs = head-small (guarded-head t (c .before .before .before))
+
+guarded-command-requires : (t : ℕ) → guarded-lts.Need-command-requires (guarded-calls t) (guarded-at t) guarded.Post
+guarded-command-requires t c κs = (omega (arith, c .before .before .before .before .before .before .before .before .before .before .before .before .before .before .before .before .before .pre .0), rw (c .skipped .ensures) (ready-headed (guarded-head t (c .before .before .before .before))))
+
+guarded-enum-known-t : (t : ℕ) → guarded-lts.Need-enum-known-t (guarded-calls t) (guarded-at t) guarded.Post
+guarded-enum-known-t t c = search needs
+
+guarded-enum-told-3 : (t : ℕ) → guarded-lts.Need-enum-told-3 (guarded-calls t) (guarded-at t) guarded.Post
+guarded-enum-told-3 t c = search needs
+
+guarded-same-length-5 : (t : ℕ) → guarded-lts.Need-same-length-5 (guarded-calls t) (guarded-at t) guarded.Post
+guarded-same-length-5 t c = search needs
+
+guarded-same-length-6 : (t : ℕ) → guarded-lts.Need-same-length-6 (guarded-calls t) (guarded-at t) guarded.Post
+guarded-same-length-6 t c = c .before .before .before .before .before .command .kept .1 .1 .1 .0 ∙ c .before .before .before .before .before .before .before .before .before .before .before .before .before .before .before .before .before .before .condition .kept .1 .1 .1 .0
+
+guarded-returns-3 : (t : ℕ) → guarded-lts.Need-returns-3 (guarded-calls t) (guarded-at t) guarded.Post
+unfolding Reads one-more
+guarded-returns-3 t c = rw (c .enum-told3 .given .1) (body-leads (guarded-head t (c .before .before .before .before .before .before .before .before .before .before)) .refuses _ _ (rw (c .before .before .before .before .before .before .skipped .ensures, c .enum-told3 .given .1) at (c .before .before .before .before .before .command .ensures)))
+
+-- and the body
+guarded-body : (t : ℕ) (c : guarded-lts.After-t (guarded-calls t) (guarded-at t) guarded.Post) → let a = c .before .before .before .before .before .before .before .before .before .before .before .before .before .before .before .before .before .before .before .before .before .before .before .args in Bodied (a .again) (now (a .text)) (now (a .names)) (now (a .table)) (a .w) (a .allow) (c .before .before .before .before .before .before .before .before .before .before .before .before .before .before .before .r .given .0 .0) (c .before .before .before .before .before .before .before .before .before .before .before .before .before .before .before .r .given .0 .1 .0) (c .before .before .before .before .before .command .last .1 .1 .0) (c .before .before .before .before .before .command .last .1 .1 .1 .0) (c .t .given .0 .0) (c .t .given .0 .1 .0)
+guarded-body t c = record { table₁ = _; x = _; head = guarded-head t (c .before .before .before .before .before .before .before .before .before .before); body = got command-way (c .t .given .1) (rw (c .before .before .before .before .before .before .skipped .ensures) at (c .before .before .before .before .before .command .ensures)) }
+
+guarded-ended-requires : (t : ℕ) → guarded-lts.Need-ended-requires (guarded-calls t) (guarded-at t) guarded.Post
+guarded-ended-requires t c κs = (body-small (guarded-body t (c .before .before)), code-fits (c .before .before .before .before .before .before .before .before .before .before .before .before .before .before .before .before .before .before .before .before .before .before .before .before .before .pre .1))
+
+guarded-cast-put : (t : ℕ) → guarded-lts.Need-cast-put (guarded-calls t) (guarded-at t) guarded.Post
+guarded-cast-put t c = count-fits (rw (c .before .before .before .ended .ensures .0) (end-small (guarded-body t (c .before .before .before .before .before .before))))
+
+guarded-put-requires : (t : ℕ) → guarded-lts.Need-put-requires (guarded-calls t) (guarded-at t) guarded.Post
+guarded-put-requires t c κs = search needs
+
+guarded-larger-requires : (t : ℕ) → guarded-lts.Need-larger-requires (guarded-calls t) (guarded-at t) guarded.Post
+guarded-larger-requires t c κs = search needs
+
+guarded-same-length-7 : (t : ℕ) → guarded-lts.Need-same-length-7 (guarded-calls t) (guarded-at t) guarded.Post
+guarded-same-length-7 t c = search needs
+
+guarded-same-length-8 : (t : ℕ) → guarded-lts.Need-same-length-8 (guarded-calls t) (guarded-at t) guarded.Post
+guarded-same-length-8 t c = c .before .before .put .kept .0 ∙ c .before .before .before .before .before .before .ended .kept .0 ∙ c .before .before .before .before .before .before .before .before .before .before .before .before .before .before .command .kept .1 .1 .1 .0 ∙ c .before .before .before .before .before .before .before .before .before .before .before .before .before .before .before .before .before .before .before .before .before .before .before .before .before .before .before .condition .kept .1 .1 .1 .0
+
+guarded-returns-4 : (t : ℕ) → guarded-lts.Need-returns-4 (guarded-calls t) (guarded-at t) guarded.Post
+guarded-returns-4 t c =
+    rw (c .before .before .put .ensures, toZ-ofZ (guarded-cast-put t (c .before .before .before)), c .before .before .before .before .before .before .ended .ensures .0, c .before .before .before .before .before .before .ended .ensures .1, c .larger .ensures)
+    (done (guarded-way _) refl (guarded-read (guarded-body t (c .before .before .before .before .before .before .before .before .before))))
+
+nested-block-requires : (t : ℕ) → nested-lts.Need-block-requires (nested-calls t) (nested-at t) nested.Post
+nested-block-requires t c κs = (omega (arith, c .before .before .before .before .before .pre .0), c .before .before .before .before .before .pre .1)
+
+nested-same-length : (t : ℕ) → nested-lts.Need-same-length (nested-calls t) (nested-at t) nested.Post
+nested-same-length t c = search needs
+
+nested-same-length-2 : (t : ℕ) → nested-lts.Need-same-length-2 (nested-calls t) (nested-at t) nested.Post
+nested-same-length-2 t c = search needs
+
+nested-returns : (t : ℕ) → nested-lts.Need-returns (nested-calls t) (nested-at t) nested.Post
+unfolding want-nested
+nested-returns t c = rw (c .before .before .before .before .before .before .if1 .taken) (c .before .before .before .block .ensures)
+
+nested-guarded-requires : (t : ℕ) → nested-lts.Need-guarded-requires (nested-calls t) (nested-at t) nested.Post
+nested-guarded-requires t c κs = (omega (arith, c .before .before .before .before .before .pre .0), c .before .before .before .before .before .pre .1)
+
+nested-same-length-3 : (t : ℕ) → nested-lts.Need-same-length-3 (nested-calls t) (nested-at t) nested.Post
+nested-same-length-3 t c = search needs
+
+nested-same-length-4 : (t : ℕ) → nested-lts.Need-same-length-4 (nested-calls t) (nested-at t) nested.Post
+nested-same-length-4 t c = search needs
+
+nested-returns-2 : (t : ℕ) → nested-lts.Need-returns-2 (nested-calls t) (nested-at t) nested.Post
+unfolding want-nested
+nested-returns-2 t c = rw (ne-eqb _ _ (c .before .before .before .before .before .before .if1 .left)) (c .before .before .before .guarded .ensures)
+
+pub +block+command+guarded+nested-spec : {M : Type 1} → statement M
++block+command+guarded+nested-spec =
+    close μ-block μ-command μ-guarded μ-nested (λ t. block-lts.spec (block-calls t)
+    (block-at t)
+    block.Post
+    block-Inv-loop
+    block-μ-loop
+    (block-opened-requires t)
+    (block-command-requires t)
+    (block-enum-known-first t)
+    (block-enum-told t)
+    (block-same-length t)
+    (block-same-length-2 t)
+    (block-returns t)
+    (block-loop-holds t)
+    (block-fixed-ahead-requires t)
+    (block-closed-requires t)
+    (block-advance-requires t)
+    (block-same-length-3 t)
+    (block-same-length-4 t)
+    (block-returns-2 t)
+    (block-command-requires-2 t)
+    (block-enum-known-r t)
+    (block-enum-told-2 t)
+    (block-same-length-5 t)
+    (block-same-length-6 t)
+    (block-returns-3 t)
+    (block-larger-requires t)
+    (block-loop-less t)
+    (block-loop-again t))
+    (λ t. command-lts.spec (command-calls t)
+    (command-at t)
+    command.Post
+    (command-advance-requires t)
+    (command-enum-known-a t)
+    (command-enum-told t)
+    (command-returns t)
+    (command-enum-told-2 t)
+    (command-assign-requires t)
+    (command-same-length t)
+    (command-same-length-2 t)
+    (command-returns-2 t)
+    (command-fixed-of-requires t)
+    (command-emitted-requires t)
+    (command-declare-requires t)
+    (command-print-int-requires t)
+    (command-print-string-requires t)
+    (command-print-string-requires-2 t)
+    (command-read-requires t)
+    (command-returns-3 t)
+    (command-sub-nested t)
+    (command-nested-requires t)
+    (command-same-length-3 t)
+    (command-returns-4 t)
+    (command-same-length-4 t)
+    (command-same-length-5 t)
+    (command-returns-5 t)
+    (command-same-length-6 t)
+    (command-same-length-7 t)
+    (command-returns-6 t)
+    (command-same-length-8 t)
+    (command-same-length-9 t)
+    (command-returns-7 t)
+    (command-same-length-10 t)
+    (command-same-length-11 t)
+    (command-returns-8 t)
+    (command-same-length-12 t)
+    (command-same-length-13 t)
+    (command-returns-9 t)
+    (command-same-length-14 t)
+    (command-same-length-15 t)
+    (command-returns-10 t)
+    (command-returns-11 t))
+    (λ t. guarded-lts.spec (guarded-calls t)
+    (guarded-at t)
+    guarded.Post
+    (guarded-condition-requires t)
+    (guarded-enum-known-r t)
+    (guarded-enum-told t)
+    (guarded-same-length t)
+    (guarded-same-length-2 t)
+    (guarded-returns t)
+    (guarded-before-body-requires t)
+    (guarded-expect-requires t)
+    (guarded-enum-known-s t)
+    (guarded-enum-told-2 t)
+    (guarded-same-length-3 t)
+    (guarded-same-length-4 t)
+    (guarded-returns-2 t)
+    (guarded-skipped-requires t)
+    (guarded-command-requires t)
+    (guarded-enum-known-t t)
+    (guarded-enum-told-3 t)
+    (guarded-same-length-5 t)
+    (guarded-same-length-6 t)
+    (guarded-returns-3 t)
+    (guarded-ended-requires t)
+    (guarded-cast-put t)
+    (guarded-put-requires t)
+    (guarded-larger-requires t)
+    (guarded-same-length-7 t)
+    (guarded-same-length-8 t)
+    (guarded-returns-4 t))
+    λ t. nested-lts.spec (nested-calls t)
+    (nested-at t)
+    nested.Post
+    (nested-block-requires t)
+    (nested-same-length t)
+    (nested-same-length-2 t)
+    (nested-returns t)
+    (nested-guarded-requires t)
+    (nested-same-length-3 t)
+    (nested-same-length-4 t)
+    (nested-returns-2 t)
