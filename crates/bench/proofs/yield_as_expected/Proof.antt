@@ -30,7 +30,7 @@ returns c =
     Instructions.alone Instructions.natural Instructions.halting Instructions.operation Instructions.decode Instructions.number Instructions.pair Instructions.numbers
     Machine.string-from Machine.reading Machine.one-used Machine.printed Machine.peek Machine.poke Machine.pushed Machine.resulting Machine.pairs Machine.jumped Machine.taken Machine.written Machine.quoted Machine.does Machine.decoded Machine.fetched Machine.step Machine.run Machine.report Machine.bad-table Machine.whole-run Machine.stack-after Machine.room-after
     Layout.size Layout.code Layout.program-code Layout.need Layout.program-need
-    Compiled.short-enough Compiled.code-of-text Compiled.fitting Compiled.lexed Compiled.laid-out Compiled.compiled Compiled.report Compiled.filled Compiled.table-after
+    Compiled.short-enough Compiled.code-of-text Compiled.at-most Compiled.measured Compiled.judged Compiled.compiled Compiled.report Compiled.filled Compiled.table-after
     Examples.ran Examples.judged Examples.yields
     in refl
 

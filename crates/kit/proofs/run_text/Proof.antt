@@ -20,16 +20,16 @@ same-length : tie.Need-same-length
 same-length c = search needs
 
 returns : tie.Need-returns
-returns c = comes-short _ _ _ (c .before .before .before .before .before .compile .ensures) _ _ _ _ (c .before .before .a2 .given .1) (c .if1 .taken)
+returns c = comes-short _ _ _ (c .before .before .before .before .before .before .compile .ensures) _ _ _ _ (c .before .before .before .a2 .given .1) (c .if1 .taken)
 
 mul-end : tie.Need-mul-end
-mul-end c = omega (arith, room _ _ _ (c .before .before .before .before .before .compile .ensures) (c .before .before .a2 .given .1))
+mul-end c = omega (arith, room _ _ _ (c .before .before .before .before .before .before .before .compile .ensures) (c .before .before .before .before .a2 .given .1))
 
 slice-reshare-prefix-run : tie.Need-slice-reshare-prefix-run
-slice-reshare-prefix-run c = room _ _ _ (c .before .before .before .before .before .compile .ensures) (c .before .before .a2 .given .1)
+slice-reshare-prefix-run c = room _ _ _ (c .before .before .before .before .before .before .before .compile .ensures) (c .before .before .before .before .a2 .given .1)
 
 slice-aggregate-run : tie.Need-slice-aggregate-run
-slice-aggregate-run c = sym (length-take-le _ _ (room _ _ _ (c .before .before .before .before .before .before .compile .ensures) (c .before .before .before .a2 .given .1)))
+slice-aggregate-run c = sym (length-take-le _ _ (room _ _ _ (c .before .before .before .before .before .before .before .before .compile .ensures) (c .before .before .before .before .before .a2 .given .1)))
 
 run-requires : tie.Need-run-requires
 run-requires c κs = search needs
@@ -50,7 +50,7 @@ same-length-5 : tie.Need-same-length-5
 same-length-5 c = search needs
 
 returns-3 : tie.Need-returns-3
-returns-3 c = comes-ran _ _ _ (c .before .before .before .before .before .before .before .before .before .before .before .before .compile .ensures) _ _ _ _ (c .before .before .before .before .before .before .before .before .before .a2 .given .1) (c .before .before .before .before .before .before .before .if1 .left) (c .before .before .before .run .ensures)
+returns-3 c = comes-ran _ _ _ (c .before .before .before .before .before .before .before .before .before .before .before .before .before .before .compile .ensures) _ _ _ _ (c .before .before .before .before .before .before .before .before .before .before .before .a2 .given .1) (c .before .before .before .before .before .before .before .before .if1 .left) (c .before .before .before .run .ensures)
 
 pub run-text-spec : {M : Type 1} → statement M
 run-text-spec =

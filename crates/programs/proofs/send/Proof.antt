@@ -39,10 +39,9 @@ ending-requires c κs = search needs
 
 returns-2 : tie.Need-returns-2
 returns-2 c =
-    let n : Small (c .before .before .before .c .given .0 .0) = search needs in
     let p : Small (c .before .before .before .c .given .0 .1 .0) = search needs in
     let l : 96 ≤ length (now (c .before .before .before .before .before .args .note)) = search needs in
-    sent-refused (now (c .before .before .before .before .before .args .room)) (c .before .before .before .c .given .1) (omega (arith, short-refused (c .before .before .before .c .given .0 .0) (c .before .before .before .c .given .0 .1 .0) n p, l)) (c .refused .ensures)
+    sent-refused (now (c .before .before .before .before .before .args .room)) (c .before .before .before .c .given .1) (omega (arith, short-refused (c .before .before .before .c .given .0 .0) (c .before .before .before .c .given .0 .1 .0) p, l)) (c .refused .ensures)
 
 returns-3 : tie.Need-returns-3
 returns-3 c =

@@ -39,10 +39,9 @@ status-of-requires c κs = search needs
 
 returns : tie.Need-returns
 returns c =
-    let n : Small (c .before .before .before .c .given .0 .0) = search needs in
     let p : Small (c .before .before .before .c .given .0 .1 .0) = search needs in
     let l : 96 ≤ length (now (c .before .before .before .before .before .args .page)) = search needs in
-    told-refused (now (c .before .before .before .before .before .args .room)) (c .before .before .before .c .given .1) (omega (arith, short-refused (c .before .before .before .c .given .0 .0) (c .before .before .before .c .given .0 .1 .0) n p, l)) (c .refused .ensures)
+    told-refused (now (c .before .before .before .before .before .args .room)) (c .before .before .before .c .given .1) (omega (arith, short-refused (c .before .before .before .c .given .0 .0) (c .before .before .before .c .given .0 .1 .0) p, l)) (c .refused .ensures)
 
 returns-2 : tie.Need-returns-2
 returns-2 c =
