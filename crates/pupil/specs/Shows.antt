@@ -17,14 +17,14 @@ use Rattle.programs.specs.Programs.{Said, not-good, status-of, came-on}
 
 -- refusals 1 and 8 are of the whole text, and their place 0 says nothing
 unfoldable pub has-place : ℕ → Bool
-has-place no = not (eqb no 1 || eqb no 8)
+has-place k = not (eqb k 1 || eqb k 8)
 
 unfoldable pub at-place : Widths → List ℕ → ℕ → List ℕ
 at-place w text place = counted ", line " (spot text place .line) ++ counted ", column " (spot text place .column) ++ bytes ":\n" ++ marked-line w text place
 
 unfoldable pub shown-refusal : Widths → Numbers → List ℕ → ℕ → ℕ → List ℕ
-shown-refusal w n text no place =
-    counted "refusal " no ++ cond (has-place no) (at-place w text place) (bytes ":\n") ++ why n text no place ++ line-end
+shown-refusal w n text k place =
+    counted "refusal " k ++ cond (has-place k) (at-place w text place) (bytes ":\n") ++ why n text k place ++ line-end
 
 unfoldable pub shown-output : List ℕ → List ℕ
 shown-output output = cond (eqb (length output) 0) (bytes "(nothing was printed)") output
@@ -37,7 +37,7 @@ shown-run n r = shown-output (r .output) ++ steps-taken (r .ending) (r .steps) (
 
 unfoldable pub shown : Widths → Numbers → List ℕ → Answer Report → Said
 shown w n text (given r) = record { out = shown-run n r; err = []; status = status-of (r .ending) }
-shown w n text (refused why′ place) = record { out = shown-refusal w n text (number why′) place; err = []; status = not-good }
+shown w n text (refused r place) = record { out = shown-refusal w n text (number r) place; err = []; status = not-good }
 
 unfoldable pub show : Limits → Station → Widths → Numbers → List ℕ → List ℕ → Said
 show limits s w n text input = shown w n text (came-on limits s text input)

@@ -12,6 +12,9 @@ use Rattle.pupil.proofs.show.Tie as tie
 enum-known-c : tie.Need-enum-known-c
 enum-known-c c = search needs
 
+number-requires : tie.Need-number-requires
+number-requires c κs = search needs
+
 put-refusal-requires : tie.Need-put-refusal-requires
 put-refusal-requires c κs = search needs
 
@@ -29,8 +32,9 @@ status-of-requires c κs = search needs
 
 returns : tie.Need-returns
 returns c =
-    let l : 512 ≤ length (now (c .before .before .before .before .before .before .args .page)) = search needs in
-    shown-refused _ (c .before .before .before .before .before .before .args .n) (now (c .before .before .before .before .before .before .args .text)) (now (c .before .before .before .before .before .before .args .room)) (c .before .before .before .c .given .1) (omega (arith, c .put-refusal .ensures .1, l)) (c .put-refusal .ensures .0)
+    let l : 512 ≤ length (now (c .before .before .before .before .before .before .before .args .page)) = search needs in
+    let x = rw (c .before .number .ensures) at (c .put-refusal .ensures) in
+    shown-refused _ (c .before .before .before .before .before .before .before .args .n) (now (c .before .before .before .before .before .before .before .args .text)) (now (c .before .before .before .before .before .before .before .args .room)) (c .before .before .before .before .c .given .1) (omega (arith, x .1, l)) (x .0)
 
 returns-2 : tie.Need-returns-2
 returns-2 c =
@@ -43,6 +47,7 @@ show-spec =
     tie.close
     (tie.spec
     enum-known-c
+    number-requires
     put-refusal-requires
     enum-known-c-2
     output-requires
