@@ -38,7 +38,7 @@ use Rattle.compiler.specs.declared.Answer.{Answer}
 use Rattle.compiler.specs.declared.Answer.the-variants.{Accepted, Refused}
 use Rattle.compiler.specs.Answers.{answered, Says, Measured, settled-by, Written}
 use Rattle.compiler.specs.Compiled as C
-use Rattle.compiler.specs.Compiled.{short-enough, code-of-text, at-most, measured, judged, compiled, report, filled, table-after}
+use Rattle.compiler.specs.Compiled.{short-enough, code-of-text, at-most, measured, judged, compiled, filled, table-after}
 use Rattle.compiler.specs.Steps.{start-at}
 use Rattle.compiler.specs.Tables.{put, emit, opening}
 use Rattle.compiler.specs.Walks.{standing, stand, named, scope-of, Laid, spare, Lays, Set-out, Counted, From-start, Reads-program}
@@ -160,16 +160,16 @@ sized limit v g y s n = rw long (by (ltb limit m))
     by true = refl
     by false = rw (long, n)
 
-module _ (nesting instructions : ℕ) (text names : List ℕ) (none : List ℤ) {r : Read} (names′ : List ℕ) (none′ : List ℤ) (d : Reads-program nesting text names none 0 r names′ none′) (a : Answer) where
+module _ (nesting instructions : ℕ) (text names : List ℕ) (none : List ℤ) {r : Read} (names′ : List ℕ) (none′ : List ℤ) (d : Reads-program nesting text names none 0 r names′ none′) where
   -- by 4 or 5
-  pub by-reading : {why : Refusal} {p : ℕ} → r ≡ read.Refused why p → a ≡ Refused why p → Measured nesting (length names / 4) instructions text a
+  pub by-reading : {why : Refusal} {p : ℕ} → r ≡ read.Refused why p → Measured nesting (length names / 4) instructions text (Refused why p)
   unfolding Measured measured pass answered
-  by-reading is e sizes ls small lx = rw (not-read nesting text names none 0 names′ none′ d is sizes ls small lx) e
+  by-reading is sizes ls small lx = rw (not-read nesting text names none 0 names′ none′ d is sizes ls small lx)
 
   -- by 6 or 7, by 8, or by none of them
-  pub by-naming : {v : Walk} {g : Gives} → r ≡ read.Done v g → a ≡ settled-by instructions v g (v .fault) → Measured nesting (length names / 4) instructions text a
+  pub by-naming : {v : Walk} {g : Gives} → r ≡ read.Done v g → (a : Answer) → a ≡ settled-by instructions v g (v .fault) → Measured nesting (length names / 4) instructions text a
   unfolding Measured measured pass
-  by-naming {v} {g} is e sizes ls small lx = rw (it .reads sizes ls small lx) (e ∙ by (v .fault) refl)
+  by-naming {v} {g} is a e sizes ls small lx = rw (it .reads sizes ls small lx) (e ∙ by (v .fault) refl)
     where
       it : Ran nesting text names none 0 names′ none′ v g
       it = ran nesting text names none 0 names′ none′ d is
@@ -180,26 +180,26 @@ module _ (nesting instructions : ℕ) (text names : List ℕ) (none : List ℤ) 
 
 -- ---- what the bytes decide
 
-module _ (limits : Limits) (text : List ℕ) (a : Answer) where
+module _ (limits : Limits) (text : List ℕ) where
   -- by 1
-  pub by-length : ltb (limits .text) (length text) ≡ true → a ≡ Refused TooLong 0 → a ≡ answered (judged limits text)
+  pub by-length : ltb (limits .text) (length text) ≡ true → Refused TooLong 0 ≡ answered (judged limits text)
   unfolding judged short-enough pass answered
-  by-length h e = rw h e
+  by-length h = rw h
 
   module _ (short : ltb (limits .text) (length text) ≡ false) {f : Found} (scans : f ≡ scanned text (lexemes (limits .sizes) text)) where
     -- by 2 or 3
-    pub by-bytes : {why : Refusal} {p : ℕ} → f ≡ found.Refused why p → a ≡ Refused why p → a ≡ answered (judged limits text)
+    pub by-bytes : {why : Refusal} {p : ℕ} → f ≡ found.Refused why p → Refused why p ≡ answered (judged limits text)
     unfolding judged short-enough pass scanned answered
-    by-bytes {why} {p} is e = rw (short, by (lexemes (limits .sizes) text) (sym is ∙ scans)) e
+    by-bytes {why} {p} is = rw (short, by (lexemes (limits .sizes) text) (sym is ∙ scans))
       where
         by : (l : A.Answer (List Placed)) → found.Refused why p ≡ scanned text l → l ≡ refused why p
         by (given ls) h = let z : _≡_ {A = ℕ} 0 1 = cc in absurd (omega arith)
         by (refused i q) h = cc
 
     -- by none of them
-    pub by-sentences : {l : Lexeme} → f ≡ found.Is l → limits .sizes .literal ≤ 2147483647 → Measured (limits .nesting) (limits .declarations) (limits .instructions) text a → a ≡ answered (judged limits text)
+    pub by-sentences : {l : Lexeme} → f ≡ found.Is l → limits .sizes .literal ≤ 2147483647 → (a : Answer) → Measured (limits .nesting) (limits .declarations) (limits .instructions) text a → a ≡ answered (judged limits text)
     unfolding judged short-enough pass scanned Measured
-    by-sentences {l} is small m = rw short (by (lexemes (limits .sizes) text) refl (sym is ∙ scans))
+    by-sentences {l} is small a m = rw short (by (lexemes (limits .sizes) text) refl (sym is ∙ scans))
       where
         by : (x : A.Answer (List Placed)) → lexemes (limits .sizes) text ≡ x → found.Is l ≡ scanned text x → a ≡ answered (pass x λ ls. measured (limits .nesting) (limits .declarations) (limits .instructions) ls)
         by (given ls) e h = m (limits .sizes) ls small e
@@ -250,7 +250,7 @@ accepts limits text a c h cells long =
     let l = handed (lexemes (limits .sizes) text) _ (s .2) in
     let m = handed (read (limits .nesting) (l .0)) _ (l .2) in
     let k = handed (resolved (limits .declarations) (m .0)) _ (m .2) in
-    by (within-limit (limits .text) text (s .1)) (l .1) (m .1) (k .1) (fitting (limits .instructions) _ (k .2))
+    by (within-limit (limits .text) text (s .1)) (l .1) (m .1) (k .1) (fitting (limits .instructions) (over (k .0)) (k .2))
   where
     over : Known (Sen ℕ command) → C.Accepted
     over k = record { command = k .what; cells = k .scope .cells }
@@ -260,12 +260,12 @@ accepts limits text a c h cells long =
         let length-is : length (code-of-text (over k)) ≡ c .instructions = ap (λ (x : C.Accepted). length (code-of-text x)) same ∙ long in
         record { short = short; lexed = ls; are-lexed = lx; tree = m; is-read = rd; known = k; are-known = rs; is = h ∙ ap given (sym same); cells = ap (λ (x : C.Accepted). x .cells) same ∙ cells; long = length-is; fits = omega arith }
 
-module _ (limits : Limits) (text : List ℕ) (a : Answer) (e : a ≡ answered (judged limits text)) {c : Counts} (is : a ≡ Accepted c) where
+module _ (limits : Limits) (text : List ℕ) {a : Answer} (e : a ≡ answered (judged limits text)) {c : Counts} (is : a ≡ Accepted c) where
   accepted : Accepts limits text c
   unfolding answered
-  accepted = by (judged limits text) refl e
+  accepted = by (judged limits text) refl (sym is ∙ e)
     where
-      by : (x : A.Answer C.Accepted) → judged limits text ≡ x → a ≡ answered x → Accepts limits text c
+      by : (x : A.Answer C.Accepted) → judged limits text ≡ x → Accepted c ≡ answered x → Accepts limits text c
       by (given b) j h =
           let same : c ≡ record { instructions = length (code-of-text b); cells = b .cells; need = program-need (b .cells) (b .command) } = cc in
           accepts limits text b c j (sym (ap (λ (x : Counts). x .cells) same)) (sym (ap (λ (x : Counts). x .instructions) same))
@@ -279,29 +279,29 @@ module _ (limits : Limits) (text : List ℕ) (a : Answer) (e : a ≡ answered (j
 
 module _ (limits : Limits) (text : List ℕ) (n : ℕ) (table : List ℤ) (zeros : table ≡ replicate n (pos 0)) where
   -- a refused text leaves the table as it was cleared
-  says-refused : {a : A.Answer C.Accepted} {why : Refusal} {p : ℕ} (r : Answer) → a ≡ refused why p → r ≡ Refused why p → Says a n r table
-  unfolding table-after filled answered
-  says-refused r h e = rw h (record { answer = e; numbers = rw (zeros, sub-zero n) })
+  says-refused : {a : A.Answer C.Accepted} {why : Refusal} {p : ℕ} → a ≡ refused why p → Says a n (Refused why p) table
+  unfolding answered table-after filled
+  says-refused h = rw h (record { answer = refl; numbers = rw (zeros, sub-zero n) })
 
-  module _ (a : Answer) (e : a ≡ answered (judged limits text)) where
+  module _ {a : Answer} (e : a ≡ answered (judged limits text)) where
     -- by what `judge` decides
     pub by-judging : {why : Refusal} {p : ℕ} → a ≡ Refused why p → Says (compiled limits text n) n a table
     unfolding compiled pass answered
-    by-judging is = by (judged limits text) e
+    by-judging {why} {p} is = rw is (by (judged limits text) (sym is ∙ e))
       where
-        by : (x : A.Answer C.Accepted) → a ≡ answered x → Says (pass x (at-most (n / 2))) n a table
+        by : (x : A.Answer C.Accepted) → Refused why p ≡ answered x → Says (pass x (at-most (n / 2))) n (Refused why p) table
         by (given b) h = let z : _≡_ {A = ℕ} 0 1 = cc in absurd (omega arith)
-        by (refused why q) h = says-refused a refl h
+        by (refused k q) h = says-refused cc
 
     module _ {c : Counts} (is : a ≡ Accepted c) where
       -- by 8, for want of room
-      pub by-room : n / 2 < c .instructions → (r : Answer) → r ≡ Refused TooMuchCode 0 → Says (compiled limits text n) n r table
+      pub by-room : n / 2 < c .instructions → Says (compiled limits text n) n (Refused TooMuchCode 0) table
       unfolding compiled pass at-most code-of-text
-      by-room h r f = let s = accepted limits text a e is in says-refused r (rw (s .is, s .long, lt-ltb (n / 2) (c .instructions) h)) f
+      by-room h = let s = accepted limits text e is in says-refused (rw (s .is, s .long, lt-ltb (n / 2) (c .instructions) h))
 
       pub by-none : c .instructions ≤ n / 2 → limits .sizes .literal ≤ 2147483647 → (table′ : List ℤ) → Written (limits .nesting) (limits .declarations) text (c .cells) table table′ → Says (compiled limits text n) n (Accepted c) table′
       unfolding compiled pass at-most Written table-after code-of-text
-      by-none h small table′ w = by (accepted limits text a e is)
+      by-none h small table′ w = by (accepted limits text e is)
         where
           by : Accepts limits text c → Says (pass (judged limits text) (at-most (n / 2))) n (Accepted c) table′
           by s =

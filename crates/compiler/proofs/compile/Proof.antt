@@ -1,5 +1,4 @@
 -- `compiler::compile` meets its contract. Assumes nothing.
-use mathlib.Core.Path.{refl}
 use native.Mathlib.Omega.{arith}
 use Rattle.compiler.proofs.Decides.{by-judging, by-room, may-write, by-none}
 use borrow.Author.Needs.{needs}
@@ -22,22 +21,22 @@ same-length : tie.Need-same-length
 same-length c = search needs
 
 returns : tie.Need-returns
-returns c = by-judging _ _ _ _ (c .before .before .before .before .clear .ensures) _ (c .before .before .judge .ensures) (c .enum-told .given .1)
+returns c = by-judging _ _ _ _ (c .before .before .before .before .clear .ensures) (c .before .before .judge .ensures) (c .enum-told .given .1)
 
 same-length-2 : tie.Need-same-length-2
 same-length-2 c = search needs
 
 returns-2 : tie.Need-returns-2
-returns-2 c = by-room _ _ _ _ (c .before .before .before .before .before .before .before .clear .ensures) _ (c .before .before .before .before .before .judge .ensures) (c .before .before .before .a .given .1) (omega arith) _ refl
+returns-2 c = by-room _ _ _ _ (c .before .before .before .before .before .before .before .clear .ensures) (c .before .before .before .before .before .judge .ensures) (c .before .before .before .a .given .1) (omega arith)
 
 write-requires : tie.Need-write-requires
-write-requires c κs = may-write _ _ _ (c .before .before .before .before .before .before .judge .ensures) (c .before .before .before .before .a .given .1)
+write-requires c κs = may-write _ _ (c .before .before .before .before .before .before .judge .ensures) (c .before .before .before .before .a .given .1)
 
 same-length-3 : tie.Need-same-length-3
 same-length-3 c = search needs
 
 returns-3 : tie.Need-returns-3
-returns-3 c = by-none _ _ _ _ (c .before .before .before .before .before .before .before .before .before .before .clear .ensures) _ (c .before .before .before .before .before .before .before .before .judge .ensures) (c .before .before .before .before .before .before .a .given .1) (omega arith) (omega arith) _ (c .before .write .ensures)
+returns-3 c = by-none _ _ _ _ (c .before .before .before .before .before .before .before .before .before .before .clear .ensures) (c .before .before .before .before .before .before .before .before .judge .ensures) (c .before .before .before .before .before .before .a .given .1) (omega arith) (omega arith) _ (c .before .write .ensures)
 
 pub compile-spec : {M : Type 1} → statement M
 compile-spec =

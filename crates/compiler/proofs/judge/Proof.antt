@@ -1,5 +1,5 @@
 -- `compiler::judge` meets its contract. Assumes nothing.
-use mathlib.Core.Path.{refl, sym, _∙_}
+use mathlib.Core.Path.{sym, _∙_}
 use native.Mathlib.Omega.{arith}
 use borrow.Author.Tests.{ltb-false}
 use Rattle.compiler.proofs.Decides.{by-length, by-bytes, by-sentences}
@@ -11,7 +11,7 @@ too-long-requires : tie.Need-too-long-requires
 too-long-requires c κs = search needs
 
 returns : tie.Need-returns
-returns c = by-length _ _ _ (sym (c .before .too-long .ensures) ∙ c .if1 .taken) refl
+returns c = by-length _ _ (sym (c .before .too-long .ensures) ∙ c .if1 .taken)
 
 scan-requires : tie.Need-scan-requires
 scan-requires c κs = search needs
@@ -26,10 +26,10 @@ measured-requires : tie.Need-measured-requires
 measured-requires c κs = ltb-false _ _ (sym (c .before .before .before .before .too-long .ensures) ∙ c .before .before .before .if1 .left)
 
 returns-2 : tie.Need-returns-2
-returns-2 c = by-bytes _ _ _ (sym (c .before .before .before .before .before .too-long .ensures) ∙ c .before .before .before .before .if1 .left) (c .before .before .before .scan .ensures) (c .before .found .given .1) refl
+returns-2 c = by-bytes _ _ (sym (c .before .before .before .before .before .too-long .ensures) ∙ c .before .before .before .before .if1 .left) (c .before .before .before .scan .ensures) (c .before .found .given .1)
 
 returns-3 : tie.Need-returns-3
-returns-3 c = by-sentences _ _ _ (sym (c .before .before .before .before .before .too-long .ensures) ∙ c .before .before .before .before .if1 .left) (c .before .before .before .scan .ensures) (c .before .enum-told .given .1) (omega arith) (c .measured .ensures)
+returns-3 c = by-sentences _ _ (sym (c .before .before .before .before .before .too-long .ensures) ∙ c .before .before .before .before .if1 .left) (c .before .before .before .scan .ensures) (c .before .enum-told .given .1) (omega arith) _ (c .measured .ensures)
 
 pub judge-spec : {M : Type 1} → statement M
 judge-spec =

@@ -1,5 +1,4 @@
 -- `compiler::measured` meets its contract. Assumes nothing.
-use mathlib.Core.Path.{refl}
 use native.Mathlib.Omega.{arith}
 use Rattle.compiler.proofs.Decides.{counted, by-reading, by-naming}
 use borrow.Author.Needs.{needs}
@@ -25,10 +24,10 @@ settled-requires : tie.Need-settled-requires
 settled-requires c κs = counted _ _ _ _ _ _ _ (c .before .before .before .before .before .program .ensures) (c .before .r2 .given .1) (record { short = omega (arith, c .before .before .before .before .before .before .before .before .before .pre); code = omega arith; room = search needs })
 
 returns : tie.Need-returns
-returns c = by-reading _ _ _ _ _ _ _ (c .before .before .before .before .before .program .ensures) _ (c .before .r .given .1) refl
+returns c = by-reading _ _ _ _ _ _ _ (c .before .before .before .before .before .program .ensures) (c .before .r .given .1)
 
 returns-2 : tie.Need-returns-2
-returns-2 c = by-naming _ _ _ _ _ _ _ (c .before .before .before .before .before .before .program .ensures) _ (c .before .before .r2 .given .1) (c .settled .ensures)
+returns-2 c = by-naming _ _ _ _ _ _ _ (c .before .before .before .before .before .before .program .ensures) (c .before .before .r2 .given .1) _ (c .settled .ensures)
 
 pub measured-spec : {M : Type 1} → statement M
 measured-spec =
