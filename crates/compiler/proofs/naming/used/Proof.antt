@@ -1,23 +1,13 @@
 -- `compiler::naming::used` meets its contract. Assumes nothing.
-use mathlib.Core.Path.{_≡_, refl, _∙_}
-use Prim.Native.Nat.{ℕ}
+use mathlib.Core.Path.{_∙_}
 use native.Mathlib.Omega.{arith}
-use Rattle.names.specs.declared.Cell.{Cell}
-use Rattle.names.specs.declared.Cell.the-variants.{At, Nowhere}
-use Rattle.compiler.specs.declared.walk.Walk.{Walk}
-use Rattle.compiler.specs.Steps.{faulted-walk, noted-walk}
 use mir.Syntax.{w32}
 use mir.Val.{SFits}
 use mir.Facts.{toZ-ofZ}
 use borrow.Author.Needs.{needs}
+use Rattle.compiler.proofs.Names.{noted-is}
 use Rattle.compiler.proofs.naming.used.Statement.{statement}
 use Rattle.compiler.proofs.naming.used.Tie as tie
-
--- a use leaves the place of the next instruction
-noted-code : (c : Cell) (w : Walk) (p : ℕ) → noted-walk c w p .code ≡ w .code
-unfolding noted-walk faulted-walk
-noted-code (At k) w p = refl
-noted-code Nowhere w p = refl
 
 look-up-requires : tie.Need-look-up-requires
 look-up-requires c κs = search needs
@@ -29,7 +19,7 @@ operand-requires : tie.Need-operand-requires
 operand-requires c κs = search needs
 
 emitted-requires : tie.Need-emitted-requires
-emitted-requires c κs = rw (c .before .noted .ensures, noted-code _ _ _) (omega arith)
+emitted-requires c κs = rw (c .before .noted .ensures, noted-is) (omega arith)
 
 same-length : tie.Need-same-length
 same-length c = search needs
@@ -38,7 +28,7 @@ returns : tie.Need-returns
 returns c =
     let f : SFits w32 (c .before .before .operand .result) = search needs in (
       c .before .emitted .ensures .0 ∙ rw (c .before .before .before .noted .ensures, c .before .before .before .before .before .look-up .ensures),
-      rw (toZ-ofZ (c .before .before .before .before .before .before .before .before .before .fits .operation), toZ-ofZ f, c .before .before .before .noted .ensures, noted-code _ _ _, c .before .before .operand .ensures, c .before .before .before .before .before .look-up .ensures) at (c .before .emitted .ensures .1),
+      rw (toZ-ofZ (c .before .before .before .before .before .before .before .before .before .fits .operation), toZ-ofZ f, c .before .before .before .noted .ensures, noted-is, c .before .before .operand .ensures, c .before .before .before .before .before .look-up .ensures) at (c .before .emitted .ensures .1),
     )
 
 pub used-spec : {M : Type 1} → statement M
