@@ -74,11 +74,6 @@ put-put table us vs m n h l =
 
 -- ---- instructions
 
-pub length-emit : (table : List ℤ) (n : ℕ) (is : List Instruction) → length (emit table n is) ≡ length table
-unfolding emit
-length-emit table n [] = refl
-length-emit table n (i ∷ is) = length-emit (put table n (pair i [])) (suc n) is ∙ length-put table n (pair i [])
-
 pub emit-append : (table : List ℤ) (n : ℕ) (xs ys : List Instruction) → emit table n (xs ++ ys) ≡ emit (emit table n xs) (n + length xs) ys
 unfolding emit
 emit-append table n [] ys = rw add-zero

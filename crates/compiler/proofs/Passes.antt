@@ -1,20 +1,20 @@
 -- How factors, terms, expressions and conditions are read: a law for each way that their readers come to an answer. Assumes nothing.
-use mathlib.Core.Path.{_≡_, refl, sym, ap, _∙_}
+use mathlib.Core.Path.{_≡_, refl}
 use mathlib.Core.List.{List}
-use mathlib.Core.Bool.{true, false}
-use Prim.Native.Nat.{ℕ, suc, _+_, _-_, _≤_}
+use mathlib.Core.Bool.{false}
+use Prim.Native.Nat.{ℕ, suc, _+_, _-_}
 use native.Mathlib.Nat.{le-refl}
 use native.Mathlib.Omega.{arith}
 use borrow.Author.Tests.{lt-ltb}
 use Rattle.base.specs.declared.Refusal.{Refusal}
 use Rattle.base.specs.declared.Refusal.the-variants.{NoProgram, TooDeep}
 use Rattle.lexeme.specs.Lexemes.{Name, Lexeme, next, open-round, close-round, NOT}
-use Rattle.lexeme.specs.Coded.{code-of, coded, fixed-number, told, Ends, Stands}
+use Rattle.lexeme.specs.Coded.{code-of, coded, fixed-number, Ends, Stands}
 use Rattle.lexeme.specs.declared.Found.the-variants as reply
 use Rattle.lexeme.specs.declared.Kind.the-variants as kind
 use Rattle.lexeme.specs.declared.Lexeme as code
 use Rattle.sentence.specs.Sentences.{Kind, Sen, factor, term, expression, condition, literal, variable, bracket, first, multiply, unsigned, signed, add, negated, compare}
-use Rattle.sentence.specs.Reader.{Around, depth, in-first, in-multiply, in-unsigned, in-signed, in-add, in-bracket, in-left, in-right, in-negated, want-factor, want-expression, want-condition, State, nowhere, is, on, on-lit, on-name, got-factor, at-factor, at-expression, at-condition, after-condition, whole-expression, after-expression, whole-term, after-term, step, verdict}
+use Rattle.sentence.specs.Reader.{Around, depth, in-first, in-multiply, in-unsigned, in-signed, in-add, in-bracket, in-left, in-right, in-negated, want-factor, want-expression, want-condition, is, on, on-lit, on-name, got-factor, at-factor, at-expression, at-condition, after-condition, whole-expression, after-expression, whole-term, after-term, step, verdict}
 use Rattle.sentence.proofs.Walk.{factor-open}
 use Rattle.compiler.specs.declared.walk.Walk.{Walk}
 use Rattle.compiler.specs.declared.walk.Read.the-variants.{Refused}

@@ -11,11 +11,11 @@ use lib.Dec.{ltb}
 use Rattle.base.specs.declared.Refusal.{Refusal}
 use Rattle.base.specs.declared.Refusal.the-variants.{NoProgram, TooDeep}
 use Rattle.base.specs.Answers.{Answer, given, refused}
-use Rattle.lexeme.specs.Lexemes.{Name, Lexeme, Fixed, fixed, Placed, next}
+use Rattle.lexeme.specs.Lexemes.{Name, Lexeme, Fixed, Placed, next}
 use Rattle.lexeme.specs.Coded.{code-of, coded, fixed-number, told, placed, Ends, Stands, Number, Ahead}
 use Rattle.lexeme.specs.declared.Lexeme as code
 use Rattle.lexeme.specs.declared.Found.the-variants as reply
-use Rattle.lexeme.proofs.Ahead.{Begins, begins, not-ahead}
+use Rattle.lexeme.proofs.Ahead.{begins, not-ahead}
 use Rattle.sentence.specs.Sentences.{Kind, Sen, command}
 use Rattle.sentence.specs.Reader.{Around, depth, State, whole, nowhere, is, step, Verdict, verdict, goes-on, is-whole, begins-none, read-from}
 use Rattle.compiler.specs.declared.walk.Walk.{Walk}
@@ -23,7 +23,7 @@ use Rattle.compiler.specs.declared.walk.Gives.{Gives}
 use Rattle.compiler.specs.declared.walk.Read.the-variants.{Done, Refused}
 use Rattle.compiler.specs.Steps.{Follows, Past, Advances, Expects}
 use Rattle.compiler.specs.Walks.{read-via, Passes, Refuses}
-use Rattle.compiler.proofs.Looked.{going, told-fixed, no-fixed}
+use Rattle.compiler.proofs.Looked.{going, no-fixed}
 
 -- ---- one lexeme
 

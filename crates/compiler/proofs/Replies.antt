@@ -1,20 +1,18 @@
 -- What a reader's answer says, taken apart, and handed on by the reader that called it. Assumes nothing.
-use mathlib.Core.Path.{_≡_, refl, sym, ap, subst, _∙_}
+use mathlib.Core.Path.{_≡_, sym, ap, subst, _∙_}
 use mathlib.Core.List.{List, [], _∷_}
-use mathlib.Core.Bool.{Bool, true}
+use mathlib.Core.Bool.{true}
 use mathlib.Core.Logic.{inl, inr}
 use Prim.Native.Nat.{ℕ, _+_, _≤_, _<_, max}
-use native.Mathlib.Nat.{le-refl}
 use native.Mathlib.Omega.{arith}
 use lib.IntN.{ℤ, pos}
 use lib.ListN.{length}
 use Rattle.base.specs.declared.Refusal.{Refusal}
-use Rattle.lexeme.specs.Lexemes.{Name, Lexeme, Fixed, next}
-use Rattle.lexeme.specs.Coded.{code-of, coded, fixed-number, Ends, Stands}
+use Rattle.lexeme.specs.Lexemes.{Name, Lexeme, next}
+use Rattle.lexeme.specs.Coded.{coded, fixed-number, Stands}
 use Rattle.lexeme.specs.declared.Lexeme as code
 use Rattle.lexeme.specs.declared.Found.the-variants as reply
 use Rattle.sentence.specs.Sentences.{Kind, Sen, multiply, add, compare}
-use Rattle.sentence.specs.Reader.{Around, State}
 use Rattle.sentence.proofs.Operators.{number-of}
 use Rattle.compiler.specs.declared.walk.Walk.{Walk}
 use Rattle.compiler.specs.declared.walk.Gives.{Gives}
@@ -22,10 +20,10 @@ use Rattle.compiler.specs.declared.walk.Read.{Read}
 use Rattle.compiler.specs.declared.walk.Read.the-variants.{Done, Refused}
 use Rattle.compiler.specs.Steps.{moved-to, one-more, operation-number, Follows, Past, Advances, Expects}
 use Rattle.compiler.specs.Tables.{put}
-use Rattle.compiler.specs.Walks.{Lays, Ready, Reads, Refuses}
+use Rattle.compiler.specs.Walks.{Lays, Ready, Reads}
 use Rattle.compiler.proofs.Emits.{length-put}
-use Rattle.compiler.proofs.Looked.{Sort, signs, muls, rels, Is-one, is-one, going}
-use Rattle.compiler.proofs.Reading.{Way, Passed, Barred, Leads, Met, met}
+use Rattle.compiler.proofs.Looked.{Sort, signs, muls, rels, Is-one, is-one}
+use Rattle.compiler.proofs.Reading.{Way, Passed, Barred, Leads}
 use Rattle.compiler.proofs.Passes.{factor-way, term-so-far, term-way, first-term-way, expression-way, comparison-way, term-more, term-lost, expression-more, expression-lost, compare-leads, compare-lost}
 use Rattle.compiler.proofs.Lays.{lays-multiply, lays-add, lays-compare, ready-moved, ready-after, counts-fit}
 

@@ -1,34 +1,20 @@
 -- Stores one after another, and a table of pairs. Assumes nothing.
 use Prim.Native.Nat.{ℕ, suc, _+_, _-_, _≤_, _<_}
-use mathlib.Core.Path.{_≡_, _∙_}
-use mathlib.Core.List.{List, [], _∷_, append-nil}
-use native.Mathlib.Nat.{sub-zero}
+use mathlib.Core.Path.{_≡_}
+use mathlib.Core.List.{List, [], _∷_}
 use native.Mathlib.Numerals.{add-one}
 use native.Mathlib.Omega.{arith}
 use borrow.Author.Needs.{sfits-of}
 use mir.Syntax.{w32}
 use mir.Val.{SFits}
 use lib.IntN.{ℤ, pos}
-use lib.ListN.{length, set, replicate, length-replicate, drop-of-length-le}
-use lib.Seq.{sets, sets-eq}
+use lib.ListN.{replicate}
 use Rattle.instruction.specs.Instructions.{Instruction, pair}
 use Rattle.compiler.specs.Tables.{put, emit}
 
 -- a loop that stores v up to a place: what is left to store, before and after one store
 rest-of : {A : Type 0} (v : A) (n i : ℕ) → i < n → replicate (n - i) v ≡ v ∷ replicate (n - (i + 1)) v
 rest-of v n i h = let e : n - i ≡ suc (n - (i + 1)) = omega arith in rw e
-
-pub store-on : {A : Type 0} (v : A) (l : List A) (n i : ℕ) → i < n → sets (set l i v) (i + 1) (replicate (n - (i + 1)) v) ≡ sets l i (replicate (n - i) v)
-store-on v l n i h = rw (rest-of v n i h, add-one)
-
-pub store-out : {A : Type 0} (v : A) (l : List A) (n i : ℕ) → n ≤ i → l ≡ sets l i (replicate (n - i) v)
-store-out v l n i h = let e : n - i ≡ 0 = omega arith in rw e
-
--- stored from end to end, nothing else is left
-pub stored-all : {A : Type 0} (v : A) (l : List A) → sets l 0 (replicate (length l - 0) v) ≡ replicate (length l) v
-stored-all v l =
-    let h : length l ≤ 0 + length l = omega arith in
-    rw (sub-zero (length l)) (sets-eq (replicate (length l) v) l 0 (simp length-replicate (omega arith)) ∙ rw (length-replicate (length l) v, drop-of-length-le l h) (append-nil _))
 
 -- the same for instructions
 pub emit-on : (x : Instruction) (table : List ℤ) (n i : ℕ) → i < n → emit (put table i (pair x [])) (i + 1) (replicate (n - (i + 1)) x) ≡ emit table i (replicate (n - i) x)

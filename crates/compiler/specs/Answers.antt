@@ -1,4 +1,4 @@
--- What `judge` and `compile` promise: the paper's number and values for each case of an answer, and what the table then holds.
+-- What `judge` and `compile` promise: the answer as the code gives it, and what the table then holds.
 use mathlib.Core.Path.{_≡_}
 use mathlib.Core.List.{List}
 use mathlib.Core.Bool.{cond}

@@ -26,7 +26,6 @@ use Rattle.names.specs.Held.{visible-in, found, Declares, opened-scope, closed-
 use Rattle.instruction.specs.Numbers.{plus, minus, times, divide, equals, smaller, greater}
 use Rattle.instruction.specs.Instructions.{number}
 use Rattle.compiler.specs.declared.walk.Walk.{Walk}
-use Rattle.compiler.specs.declared.walk.Gives.{Gives}
 use Rattle.compiler.specs.declared.walk.Fault.{Fault}
 use Rattle.compiler.specs.declared.walk.Fault.the-variants.{Nothing, Is}
 use Rattle.compiler.specs.declared.walk.Read.{Read}

@@ -62,7 +62,7 @@ fn program(text: &[u8], names: &mut [usize], table: &mut [i32], code: usize) -> 
 }
 
 // Numbers that the declarations take.
-const NAMES: usize = Limits::DECLARATIONS * 4;
+const NAMES: usize = Limits::DECLARATIONS * names::ENTRY;
 
 // What a whole Program comes to: a name's refusal, too much code, or its counts.
 fn settled(w: Walk, g: Gives) -> Answer

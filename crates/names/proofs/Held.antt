@@ -14,7 +14,7 @@ use Rattle.base.specs.Answers.{Answer, given, refused}
 use Rattle.base.specs.Bytes.{part, same}
 use Rattle.lexeme.specs.Lexemes.{Name}
 use Rattle.names.specs.Names as N
-use Rattle.names.specs.Names.{Declaration, nothing-declared, Known, look-up, used, one-more, declared-here, opened, closed}
+use Rattle.names.specs.Names.{Declaration, Known, look-up, used, one-more, declared-here, opened, closed}
 use Rattle.names.specs.Held.{held, visible-in, scope-in, found, counted, declared-scope, entered, Declares, opened-scope, closed-scope, Sound, Low, Kept}
 use Rattle.names.specs.declared.Scope.{Scope}
 use Rattle.names.specs.declared.Cell.{Cell}
@@ -26,10 +26,6 @@ use Rattle.names.proofs.Found.{visible-suc}
 
 abbrev pub nothing-yet : Scope
 nothing-yet = record { visible = 0; declared = 0; «next_cell» = 0; cells = 0; blocks = 0 }
-
-pub nothing-scope-in : (text names : List ℕ) → scope-in text names nothing-yet ≡ nothing-declared
-unfolding scope-in visible-in
-nothing-scope-in text names = refl
 
 pub nothing-sound : (names : List ℕ) → length names ≤ 1000000 → Sound names nothing-yet
 nothing-sound names h = record { visible = omega arith; next-cell = omega arith; cells = omega arith; declared = omega arith; blocks = omega arith; room = h }
@@ -75,10 +71,6 @@ module _ (text names names′ : List ℕ) where
   unfolding visible-in
   kept-visible zero h = refl
   kept-visible (suc k) h = rw (h .count, kept-held k h, kept-visible k (record { count = h .count; entries = λ i q. h .entries i (omega arith) }))
-
-  pub kept-scope : (s : Scope) → Kept (s .visible) names names′ → scope-in text names′ s ≡ scope-in text names s
-  unfolding scope-in
-  kept-scope s h = rw (kept-visible (s .visible) h)
 
 -- ---- a declaration
 

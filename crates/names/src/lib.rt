@@ -62,7 +62,7 @@ fn is_named(text: &[u8], names: &[usize], k: usize, word: &[u8]) -> bool
     requires { ⌜ k < length (now names) / 4 ⌝ }
     ensures { λ r. ⌜ r ≡ same (held (now (text .entry)) (now (names .entry)) k .letters) (now (word .entry)) ⌝ }
 {
-    let at = k * 4;
+    let at = k * ENTRY;
     let p = names[at];
     if is_other(text, p, word) {
         return false;
@@ -76,11 +76,11 @@ pub fn look_up(text: &[u8], names: &[usize], s: Scope, p: usize, e: usize) -> Ce
     ensures { λ r. ⌜ r ≡ found (visible-in (now (text .entry)) (now (names .entry)) (s .visible)) (part (now (text .entry)) p e) ⌝ }
 {
     let word = base::part(text, p, e);
-    let mut k = base::smaller(s.visible, names.len() / 4);
+    let mut k = base::smaller(s.visible, names.len() / ENTRY);
     while 0 < k {
         k -= 1;
         if is_named(text, names, k, word) {
-            return Cell::At(names[k * 4 + 2]);
+            return Cell::At(names[k * ENTRY + 2]);
         }
     }
     Cell::Nowhere
@@ -91,7 +91,7 @@ fn enter(names: &mut [usize], k: usize, p: usize, e: usize, cell: usize, block: 
     requires { ⌜ k < length (now names) / 4 ⌝ }
     ensures { λ _. ⌜ now (names .exit) ≡ sets (now (names .entry)) (k * 4) (p ∷ e ∷ cell ∷ block ∷ []) ⌝ }
 {
-    let at = k * 4;
+    let at = k * ENTRY;
     names[at] = p;
     names[at + 1] = e;
     names[at + 2] = cell;
@@ -115,7 +115,7 @@ fn with_one_more(s: Scope) -> Scope
 pub fn declare(names: &mut [usize], s: Scope, p: usize, e: usize) -> Declared
     ensures { λ r. ⌜ Declares (now (names .entry)) s p e r (now (names .exit)) ⌝ }
 {
-    let room = names.len() / 4;
+    let room = names.len() / ENTRY;
     if room <= s.declared {
         return Declared::TooMany;
     }
