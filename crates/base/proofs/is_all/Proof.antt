@@ -10,13 +10,10 @@ use borrow.Author.Needs.{needs}
 use Rattle.base.proofs.is_all.Statement.{statement}
 use Rattle.base.proofs.is_all.Tie as tie
 
-run-end-requires : tie.Need-run-end-requires
-run-end-requires c κs = search needs
-
 returns : tie.Need-returns
 returns c =
     let e : c .run-end .result ≡ length (run (such (c .before .before .args .kind)) (now (c .before .before .args .word))) = omega (arith, c .run-end .ensures) in
     rw e (all-run _ _)
 
 pub is-all-spec : {M : Type 1} → statement M
-is-all-spec = tie.close (tie.spec run-end-requires returns)
+is-all-spec = tie.close (tie.spec (λ c κs. search needs) returns)

@@ -6,36 +6,6 @@ use borrow.Author.Needs.{needs}
 use Rattle.base.proofs.is_such.Statement.{statement}
 use Rattle.base.proofs.is_such.Tie as tie
 
-enum-told : tie.Need-enum-told
-enum-told c = search needs
-
-is-separator-requires : tie.Need-is-separator-requires
-is-separator-requires c κs = search needs
-
-enum-told-2 : tie.Need-enum-told-2
-enum-told-2 c = search needs
-
-is-letter-requires : tie.Need-is-letter-requires
-is-letter-requires c κs = search needs
-
-enum-told-3 : tie.Need-enum-told-3
-enum-told-3 c = search needs
-
-is-letter-requires-2 : tie.Need-is-letter-requires-2
-is-letter-requires-2 c κs = search needs
-
-is-digit-requires : tie.Need-is-digit-requires
-is-digit-requires c κs = search needs
-
-enum-told-4 : tie.Need-enum-told-4
-enum-told-4 c = search needs
-
-is-digit-requires-2 : tie.Need-is-digit-requires-2
-is-digit-requires-2 c κs = search needs
-
-enum-told-5 : tie.Need-enum-told-5
-enum-told-5 c = search needs
-
 returns : tie.Need-returns
 unfolding such letter-or-digit no-quote
 returns c = rw (c .before .enum-told .given .1) (c .is-separator .ensures)
@@ -64,16 +34,16 @@ pub is-such-spec : {M : Type 1} → statement M
 is-such-spec =
     tie.close
     (tie.spec
-    enum-told
-    is-separator-requires
-    enum-told-2
-    is-letter-requires
-    enum-told-3
-    is-letter-requires-2
-    is-digit-requires
-    enum-told-4
-    is-digit-requires-2
-    enum-told-5
+    (λ c. search needs)
+    (λ c κs. search needs)
+    (λ c. search needs)
+    (λ c κs. search needs)
+    (λ c. search needs)
+    (λ c κs. search needs)
+    (λ c κs. search needs)
+    (λ c. search needs)
+    (λ c κs. search needs)
+    (λ c. search needs)
     returns
     returns-2
     returns-3

@@ -23,9 +23,6 @@ loop-holds c = refl
 shared-slice-read-is-such : tie.Need-shared-slice-read-is-such Inv-loop μ-loop
 shared-slice-read-is-such c = omega arith
 
-is-such-requires : tie.Need-is-such-requires Inv-loop μ-loop
-is-such-requires c κs = search needs
-
 returns : tie.Need-returns Inv-loop μ-loop
 returns c = run-stop _ _ (c .before .before .before .before .loop .i) (c .before .before .before .loop-test .taken) (sym (c .before .is-such .ensures) ∙ not-true _ (c .if1 .taken)) ∙ c .before .before .before .before .loop .inv
 
@@ -49,7 +46,7 @@ run-end-spec =
     μ-loop
     loop-holds
     shared-slice-read-is-such
-    is-such-requires
+    (λ c κs. search needs)
     returns
     add-i
     loop-less

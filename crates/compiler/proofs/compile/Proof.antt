@@ -5,35 +5,14 @@ use borrow.Author.Needs.{needs}
 use Rattle.compiler.proofs.compile.Statement.{statement}
 use Rattle.compiler.proofs.compile.Tie as tie
 
-clear-requires : tie.Need-clear-requires
-clear-requires c κs = search needs
-
-judge-requires : tie.Need-judge-requires
-judge-requires c κs = search needs
-
-enum-known-a : tie.Need-enum-known-a
-enum-known-a c = search needs
-
-enum-told : tie.Need-enum-told
-enum-told c = search needs
-
-same-length : tie.Need-same-length
-same-length c = search needs
-
 returns : tie.Need-returns
 returns c = by-judging _ _ _ _ (c .before .before .before .before .clear .ensures) (c .before .before .judge .ensures) (c .enum-told .given .1)
-
-same-length-2 : tie.Need-same-length-2
-same-length-2 c = search needs
 
 returns-2 : tie.Need-returns-2
 returns-2 c = by-room _ _ _ _ (c .before .before .before .before .before .before .before .clear .ensures) (c .before .before .before .before .before .judge .ensures) (c .before .before .before .a .given .1) (omega arith)
 
 write-requires : tie.Need-write-requires
 write-requires c κs = may-write _ _ (c .before .before .before .before .before .before .judge .ensures) (c .before .before .before .before .a .given .1)
-
-same-length-3 : tie.Need-same-length-3
-same-length-3 c = search needs
 
 returns-3 : tie.Need-returns-3
 returns-3 c = by-none _ _ _ _ (c .before .before .before .before .before .before .before .before .before .before .clear .ensures) (c .before .before .before .before .before .before .before .before .judge .ensures) (c .before .before .before .before .before .before .a .given .1) (omega arith) (omega arith) _ (c .before .write .ensures)
@@ -42,14 +21,14 @@ pub compile-spec : {M : Type 1} → statement M
 compile-spec =
     tie.close
     (tie.spec
-    clear-requires
-    judge-requires
-    enum-known-a
-    enum-told
-    same-length
+    (λ c κs. search needs)
+    (λ c κs. search needs)
+    (λ c. search needs)
+    (λ c. search needs)
+    (λ c. search needs)
     returns
-    same-length-2
+    (λ c. search needs)
     returns-2
     write-requires
-    same-length-3
+    (λ c. search needs)
     returns-3)

@@ -7,20 +7,8 @@ use borrow.Author.Needs.{needs}
 use Rattle.compiler.proofs.judge.Statement.{statement}
 use Rattle.compiler.proofs.judge.Tie as tie
 
-too-long-requires : tie.Need-too-long-requires
-too-long-requires c κs = search needs
-
 returns : tie.Need-returns
 returns c = by-length _ _ (sym (c .before .too-long .ensures) ∙ c .if1 .taken)
-
-scan-requires : tie.Need-scan-requires
-scan-requires c κs = search needs
-
-enum-known-found : tie.Need-enum-known-found
-enum-known-found c = search needs
-
-enum-told : tie.Need-enum-told
-enum-told c = search needs
 
 measured-requires : tie.Need-measured-requires
 measured-requires c κs = ltb-false _ _ (sym (c .before .before .before .before .too-long .ensures) ∙ c .before .before .before .if1 .left)
@@ -35,11 +23,11 @@ pub judge-spec : {M : Type 1} → statement M
 judge-spec =
     tie.close
     (tie.spec
-    too-long-requires
+    (λ c κs. search needs)
     returns
-    scan-requires
-    enum-known-found
-    enum-told
+    (λ c κs. search needs)
+    (λ c. search needs)
+    (λ c. search needs)
     measured-requires
     returns-2
     returns-3)

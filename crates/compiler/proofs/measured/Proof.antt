@@ -5,21 +5,6 @@ use borrow.Author.Needs.{needs}
 use Rattle.compiler.proofs.measured.Statement.{statement}
 use Rattle.compiler.proofs.measured.Tie as tie
 
-slice-aggregate-program : tie.Need-slice-aggregate-program
-slice-aggregate-program c = search needs
-
-slice-aggregate-program-2 : tie.Need-slice-aggregate-program-2
-slice-aggregate-program-2 c = search needs
-
-program-requires : tie.Need-program-requires
-program-requires c κs = search needs
-
-enum-known-r : tie.Need-enum-known-r
-enum-known-r c = search needs
-
-enum-known-r-2 : tie.Need-enum-known-r-2
-enum-known-r-2 c = search needs
-
 settled-requires : tie.Need-settled-requires
 settled-requires c κs = counted _ _ _ _ _ _ _ (c .before .before .before .before .before .program .ensures) (c .before .r2 .given .1) (record { short = omega (arith, c .before .before .before .before .before .before .before .before .before .pre); code = omega arith; room = search needs })
 
@@ -33,11 +18,11 @@ pub measured-spec : {M : Type 1} → statement M
 measured-spec =
     tie.close
     (tie.spec
-    slice-aggregate-program
-    slice-aggregate-program-2
-    program-requires
-    enum-known-r
-    enum-known-r-2
+    (λ c. search needs)
+    (λ c. search needs)
+    (λ c κs. search needs)
+    (λ c. search needs)
+    (λ c. search needs)
     settled-requires
     returns
     returns-2)

@@ -22,21 +22,9 @@ loop-holds : tie.Need-loop-holds Inv-loop μ-loop
 unfolding opening
 loop-holds c = (omega arith, refl, rw (sub-zero (c .args .cells)))
 
-put-requires : tie.Need-put-requires Inv-loop μ-loop
-put-requires c κs = search needs
-
-add-i : tie.Need-add-i Inv-loop μ-loop
-add-i c = search needs
-
-loop-less : tie.Need-loop-less Inv-loop μ-loop
-loop-less c = search needs
-
 loop-again : tie.Need-loop-again Inv-loop μ-loop
 unfolding pair
 loop-again c = (omega arith, search needs, rw (c .before .put .ensures) (emit-on (push-int (pos 0)) (c .before .before .before .before .loop .table) (c .before .before .before .before .before .args .cells) (c .before .before .before .before .loop .i) (omega arith) ∙ c .before .before .before .before .loop .inv .2))
-
-same-length : tie.Need-same-length Inv-loop μ-loop
-same-length c = search needs
 
 returns : tie.Need-returns Inv-loop μ-loop
 returns c = emit-out (push-int (pos 0)) (c .before .loop .table) (c .before .before .args .cells) (c .before .loop .i) (omega arith) ∙ c .before .loop .inv .2
@@ -48,9 +36,9 @@ open-spec =
     Inv-loop
     μ-loop
     loop-holds
-    put-requires
-    add-i
-    loop-less
+    (λ c κs. search needs)
+    (λ c. search needs)
+    (λ c. search needs)
     loop-again
-    same-length
+    (λ c. search needs)
     returns)

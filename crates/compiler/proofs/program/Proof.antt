@@ -8,29 +8,14 @@ use borrow.Author.Needs.{needs}
 use Rattle.compiler.proofs.program.Statement.{statement}
 use Rattle.compiler.proofs.program.Tie as tie
 
-start-requires : tie.Need-start-requires
-start-requires c κs = search needs
-
 advance-requires : tie.Need-advance-requires
 advance-requires c κs = rw (c .start .ensures) (omega arith)
-
-enum-known-a : tie.Need-enum-known-a
-enum-known-a c = search needs
-
-enum-told : tie.Need-enum-told
-enum-told c = search needs
 
 returns : tie.Need-returns
 returns c = not-lexed (c .before .before .before .before .before .before .pre) (rw (c .before .before .before .start .ensures) at (c .before .before .advance .ensures)) _ _ (c .enum-told .given .1)
 
 expect-requires : tie.Need-expect-requires
 expect-requires c κs = first-within (c .before .before .before .before .before .before .before .pre) (rw (c .before .before .before .before .start .ensures) at (c .before .before .before .advance .ensures)) (c .before .a .given .1)
-
-enum-known-b : tie.Need-enum-known-b
-enum-known-b c = search needs
-
-enum-told-2 : tie.Need-enum-told-2
-enum-told-2 c = search needs
 
 returns-2 : tie.Need-returns-2
 unfolding code-of
@@ -44,39 +29,12 @@ begun-at c = begun (c .before .before .before .before .before .before .before .b
 command-requires : tie.Need-command-requires
 command-requires c κs = begun-ready (begun-at (c .before .before)) _ (omega arith)
 
-enum-known-r : tie.Need-enum-known-r
-enum-known-r c = search needs
-
-enum-told-3 : tie.Need-enum-told-3
-enum-told-3 c = search needs
-
-same-length : tie.Need-same-length
-same-length c = search needs
-
-same-length-2 : tie.Need-same-length-2
-same-length-2 c = search needs
-
 returns-3 : tie.Need-returns-3
 returns-3 c = command-refused (begun-at (c .before .before .before .before .before .before .before .before)) _ _ _ _ (c .before .before .before .before .before .command .ensures) (c .enum-told3 .given .1)
-
-fixed-ahead-requires : tie.Need-fixed-ahead-requires
-fixed-ahead-requires c κs = search needs
-
-same-length-3 : tie.Need-same-length-3
-same-length-3 c = search needs
-
-same-length-4 : tie.Need-same-length-4
-same-length-4 c = search needs
 
 returns-4 : tie.Need-returns-4
 unfolding code-of
 returns-4 c = not-ended (begun-at (c .before .before .before .before .before .before .before .before .before .before .before .before)) _ _ _ _ (c .before .before .before .before .before .before .before .before .before .command .ensures) (c .before .before .before .before .r .given .1) (λ h. c .before .if1 .taken (c .before .before .fixed-ahead .ensures ∙ h))
-
-same-length-5 : tie.Need-same-length-5
-same-length-5 c = search needs
-
-same-length-6 : tie.Need-same-length-6
-same-length-6 c = search needs
 
 returns-5 : tie.Need-returns-5
 unfolding code-of
@@ -86,25 +44,25 @@ pub program-spec : {M : Type 1} → statement M
 program-spec =
     tie.close
     (tie.spec
-    start-requires
+    (λ c κs. search needs)
     advance-requires
-    enum-known-a
-    enum-told
+    (λ c. search needs)
+    (λ c. search needs)
     returns
     expect-requires
-    enum-known-b
-    enum-told-2
+    (λ c. search needs)
+    (λ c. search needs)
     returns-2
     command-requires
-    enum-known-r
-    enum-told-3
-    same-length
-    same-length-2
+    (λ c. search needs)
+    (λ c. search needs)
+    (λ c. search needs)
+    (λ c. search needs)
     returns-3
-    fixed-ahead-requires
-    same-length-3
-    same-length-4
+    (λ c κs. search needs)
+    (λ c. search needs)
+    (λ c. search needs)
     returns-4
-    same-length-5
-    same-length-6
+    (λ c. search needs)
+    (λ c. search needs)
     returns-5)

@@ -5,28 +5,13 @@ use borrow.Author.Needs.{needs}
 use Rattle.compiler.proofs.settled.Statement.{statement}
 use Rattle.compiler.proofs.settled.Tie as tie
 
-enum-known-fault : tie.Need-enum-known-fault
-enum-known-fault c = search needs
-
 returns : tie.Need-returns
 unfolding settled-by
 returns c = rw (c .before .fault .given .1)
 
-enum-told : tie.Need-enum-told
-enum-told c = search needs
-
-add-size : tie.Need-add-size
-add-size c = search needs
-
-add-size-2 : tie.Need-add-size-2
-add-size-2 c = search needs
-
 returns-2 : tie.Need-returns-2
 unfolding settled-by
 returns-2 c = rw (c .before .before .before .before .enum-told .given .1, lt-ltb _ _ (c .if1 .taken))
-
-add-t8 : tie.Need-add-t8
-add-t8 c = search needs
 
 returns-3 : tie.Need-returns-3
 unfolding settled-by
@@ -35,4 +20,4 @@ returns-3 c = rw (c .before .before .before .before .before .before .enum-told .
 pub settled-spec : {M : Type 1} → statement M
 settled-spec =
     tie.close
-    (tie.spec enum-known-fault returns enum-told add-size add-size-2 returns-2 add-t8 returns-3)
+    (tie.spec (λ c. search needs) returns (λ c. search needs) (λ c. search needs) (λ c. search needs) returns-2 (λ c. search needs) returns-3)

@@ -26,41 +26,11 @@ Inv-loop fd numbers₀ reader₀ more₀ turns₀ numbers reader more turns = (l
 abbrev μ-loop : tie.MeasureT-loop
 μ-loop fd numbers₀ reader₀ more₀ turns₀ numbers reader more turns = turns
 
-start-requires : tie.Need-start-requires Inv-loop μ-loop
-start-requires c κs = search needs
-
 loop-holds : tie.Need-loop-holds Inv-loop μ-loop
 loop-holds c = (refl, ([], c .start .ensures _))
 
-take-chunk-requires : tie.Need-take-chunk-requires Inv-loop μ-loop
-take-chunk-requires c κs = search needs
-
-enum-known-chunk : tie.Need-enum-known-chunk Inv-loop μ-loop
-enum-known-chunk c = search needs
-
-enum-told : tie.Need-enum-told Inv-loop μ-loop
-enum-told c = search needs
-
-same-length : tie.Need-same-length Inv-loop μ-loop
-same-length c = search needs
-
-returns : tie.Need-returns Inv-loop μ-loop
-returns c = search needs
-
-sub-turns : tie.Need-sub-turns Inv-loop μ-loop
-sub-turns c = search needs
-
-loop-less : tie.Need-loop-less Inv-loop μ-loop
-loop-less c = search needs
-
 loop-again : tie.Need-loop-again Inv-loop μ-loop
 loop-again c = (search needs, further _ _ _ _ _ _ (rw (c .before .chunk .given .1) at (c .before .before .before .before .take-chunk .ensures)) (c .before .before .before .before .before .before .before .before .loop .inv .1))
-
-finish-requires : tie.Need-finish-requires Inv-loop μ-loop
-finish-requires c κs = search needs
-
-same-length-2 : tie.Need-same-length-2 Inv-loop μ-loop
-same-length-2 c = search needs
 
 returns-2 : tie.Need-returns-2 Inv-loop μ-loop
 returns-2 c = (c .before .before .before .before .loop .inv .1 .0 ++ [], c .before .finish .ensures ∙ c .before .before .before .before .loop .inv .1 .1 [])
@@ -71,16 +41,16 @@ readings-of-spec =
     (tie.spec
     Inv-loop
     μ-loop
-    start-requires
+    (λ c κs. search needs)
     loop-holds
-    take-chunk-requires
-    enum-known-chunk
-    enum-told
-    same-length
-    returns
-    sub-turns
-    loop-less
+    (λ c κs. search needs)
+    (λ c. search needs)
+    (λ c. search needs)
+    (λ c. search needs)
+    (λ c. search needs)
+    (λ c. search needs)
+    (λ c. search needs)
     loop-again
-    finish-requires
-    same-length-2
+    (λ c κs. search needs)
+    (λ c. search needs)
     returns-2)

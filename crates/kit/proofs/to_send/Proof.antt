@@ -8,15 +8,6 @@ use Rattle.kit.proofs.Sends.{not-normal, too-long, sent}
 use Rattle.kit.proofs.to_send.Statement.{statement}
 use Rattle.kit.proofs.to_send.Tie as tie
 
-sub-result : tie.Need-sub-result
-sub-result c = search needs
-
-part-result-start : tie.Need-part-result-start
-part-result-start c = search needs
-
-part-result-end : tie.Need-part-result-end
-part-result-end c = search needs
-
 returns : tie.Need-returns
 returns c = ⊎-elim (λ t. not-normal _ _ _ (t .taken)) (λ t. too-long _ _ _ (ltb-true _ _ (t .1 .taken))) (c .before .if1 .came)
 
@@ -27,4 +18,4 @@ returns-2 : tie.Need-returns-2
 returns-2 c = sent _ _ _ (c .before .before .if1 .left) (ltb-false _ _ (c .before .if2 .left))
 
 pub to-send-spec : {M : Type 1} → statement M
-to-send-spec = tie.close (tie.spec sub-result part-result-start part-result-end returns slice-aggregate-result returns-2)
+to-send-spec = tie.close (tie.spec (λ c. search needs) (λ c. search needs) (λ c. search needs) returns slice-aggregate-result returns-2)

@@ -19,9 +19,6 @@ not-fixed Class t = refl
 not-fixed Str t = refl
 not-fixed (Fixed f) t = absurd (miss (0 ∷ 1 ∷ 2 ∷ 3 ∷ []) 4 tt t)
 
-enum-known-kind : tie.Need-enum-known-kind
-enum-known-kind c = search needs
-
 returns : tie.Need-returns
 unfolding fixed-number
 returns c = search needs
@@ -30,4 +27,4 @@ returns-2 : tie.Need-returns-2
 returns-2 c = not-fixed _ (c .match .keys2)
 
 pub fixed-of-spec : {M : Type 1} → statement M
-fixed-of-spec = tie.close (tie.spec enum-known-kind returns returns-2)
+fixed-of-spec = tie.close (tie.spec (λ c. search needs) returns returns-2)

@@ -5,15 +5,9 @@ use Rattle.lexeme.specs.Coded.{kind-of}
 use Rattle.lexeme.proofs.letter_word.Statement.{statement}
 use Rattle.lexeme.proofs.letter_word.Tie as tie
 
-starts-small-requires : tie.Need-starts-small-requires
-starts-small-requires c κs = search needs
-
 returns : tie.Need-returns
 unfolding letter-word kind-of
 returns c p = rw (← c .before .starts-small .ensures, c .if1 .taken)
-
-capital-word-requires : tie.Need-capital-word-requires
-capital-word-requires c κs = search needs
 
 returns-2 : tie.Need-returns-2
 unfolding letter-word
@@ -21,4 +15,4 @@ returns-2 c p = rw (← c .before .before .starts-small .ensures, c .before .if1
 
 pub letter-word-spec : {M : Type 1} → statement M
 letter-word-spec =
-    tie.close (tie.spec starts-small-requires returns capital-word-requires returns-2)
+    tie.close (tie.spec (λ c κs. search needs) returns (λ c κs. search needs) returns-2)

@@ -12,9 +12,6 @@ use Rattle.lexeme.proofs.starts_small.Tie as tie
 returns : tie.Need-returns
 returns c = starts-empty _ (c .if1 .taken)
 
-shared-slice-read-b : tie.Need-shared-slice-read-b
-shared-slice-read-b c = search needs
-
 returns-2 : tie.Need-returns-2
 unfolding small
 returns-2 c = let b = getD (now (c .before .before .before .before .args .word)) 0 0 in rw (starts-first _ (c .before .before .before .if1 .left), le-leb 97 b (omega arith), le-leb b 122 (omega arith))
@@ -28,4 +25,4 @@ unfolding small
 returns-4 c = let b = getD (now (c .before .before .before .before .args .word)) 0 0 in rw (starts-first _ (c .before .before .before .if1 .left), le-leb 97 b (omega arith), lt-leb b 122 (omega arith))
 
 pub starts-small-spec : {M : Type 1} → statement M
-starts-small-spec = tie.close (tie.spec returns shared-slice-read-b returns-2 returns-3 returns-4)
+starts-small-spec = tie.close (tie.spec returns (λ c. search needs) returns-2 returns-3 returns-4)

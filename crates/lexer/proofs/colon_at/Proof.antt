@@ -10,15 +10,6 @@ use borrow.Author.Needs.{needs}
 use Rattle.lexer.proofs.colon_at.Statement.{statement}
 use Rattle.lexer.proofs.colon_at.Tie as tie
 
-add-q : tie.Need-add-q
-add-q c = search needs
-
-shared-slice-read-if2 : tie.Need-shared-slice-read-if2
-shared-slice-read-if2 c = search needs
-
-add-t10 : tie.Need-add-t10
-add-t10 c = search needs
-
 returns : tie.Need-returns
 unfolding colon found coded kind-of code-of
 returns c = rw (drop-cons (now (c .before .before .before .args .text)) (c .before .before .before .args .p + 1) 0 (c .before .before .if1 .taken), eq-eqb _ 61 (c .if2 .taken))
@@ -33,4 +24,4 @@ returns-3 c = rw (drop-of-length-le (now (c .before .args .text)) (c .if1 .left)
 
 pub colon-at-spec : {M : Type 1} → statement M
 colon-at-spec =
-    tie.close (tie.spec add-q shared-slice-read-if2 add-t10 returns returns-2 returns-3)
+    tie.close (tie.spec (λ c. search needs) (λ c. search needs) (λ c. search needs) returns returns-2 returns-3)

@@ -4,27 +4,6 @@ use Rattle.lexeme.specs.Coded.{large}
 use Rattle.lexer.proofs.is_too_large.Statement.{statement}
 use Rattle.lexer.proofs.is_too_large.Tie as tie
 
-sub-n : tie.Need-sub-n
-sub-n c = search needs
-
-enum-known-kind : tie.Need-enum-known-kind
-enum-known-kind c = search needs
-
-enum-told : tie.Need-enum-told
-enum-told c = search needs
-
-enum-told-2 : tie.Need-enum-told-2
-enum-told-2 c = search needs
-
-enum-told-3 : tie.Need-enum-told-3
-enum-told-3 c = search needs
-
-add-result : tie.Need-add-result
-add-result c = search needs
-
-enum-told-4 : tie.Need-enum-told-4
-enum-told-4 c = search needs
-
 returns : tie.Need-returns
 unfolding large
 returns c = rw (c .before .kind .given .1)
@@ -49,13 +28,13 @@ pub is-too-large-spec : {M : Type 1} → statement M
 is-too-large-spec =
     tie.close
     (tie.spec
-    sub-n
-    enum-known-kind
-    enum-told
-    enum-told-2
-    enum-told-3
-    add-result
-    enum-told-4
+    (λ c. search needs)
+    (λ c. search needs)
+    (λ c. search needs)
+    (λ c. search needs)
+    (λ c. search needs)
+    (λ c. search needs)
+    (λ c. search needs)
     returns
     returns-2
     returns-3

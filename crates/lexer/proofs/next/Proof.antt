@@ -16,27 +16,9 @@ use borrow.Author.Needs.{needs}
 use Rattle.lexer.proofs.next.Statement.{statement}
 use Rattle.lexer.proofs.next.Tie as tie
 
-run-end-requires : tie.Need-run-end-requires
-run-end-requires c κs = search needs
-
 returns : tie.Need-returns
 unfolding next such coded code-of
 returns c = rw (← c .before .run-end .ensures) (ap coded (here-end _ _ (c .if1 .taken)))
-
-shared-slice-read-b : tie.Need-shared-slice-read-b
-shared-slice-read-b c = search needs
-
-is-such-requires : tie.Need-is-such-requires
-is-such-requires c κs = search needs
-
-run-end-requires-2 : tie.Need-run-end-requires-2
-run-end-requires-2 c κs = search needs
-
-sub-word-at : tie.Need-sub-word-at
-sub-word-at c = search needs
-
-part-word-at-start : tie.Need-part-word-at-start
-part-word-at-start c = search needs
 
 part-word-at-end : tie.Need-part-word-at-end
 unfolding such
@@ -44,9 +26,6 @@ part-word-at-end c =
     let text = now (c .before .before .before .before .before .before .before .args .text) in
     let p = c .before .before .before .before .before .run-end .result in
     omega (arith, c .run-end2 .ensures, run-fits letter-or-digit (drop p text), length-drop p text)
-
-word-at-requires : tie.Need-word-at-requires
-word-at-requires c κs = search needs
 
 returns-2 : tie.Need-returns-2
 unfolding next such
@@ -68,18 +47,6 @@ at-other : (c : tie.Else2) → next (text-of c) (c .before .before .before .befo
 unfolding next such
 at-other c = rw (← c .before .before .before .before .run-end .ensures) (here-other _ _ (omega arith) (sym (c .before .is-such .ensures) ∙ c .if2 .left))
 
-string-at-requires : tie.Need-string-at-requires
-string-at-requires c κs = search needs
-
-colon-at-requires : tie.Need-colon-at-requires
-colon-at-requires c κs = search needs
-
-add-symbol-at : tie.Need-add-symbol-at
-add-symbol-at c = search needs
-
-symbol-at-requires : tie.Need-symbol-at-requires
-symbol-at-requires c κs = search needs
-
 returns-3 : tie.Need-returns-3
 returns-3 c = rw (at-other (c .before .before), c .before .match .keys1) (c .string-at .ensures)
 
@@ -93,20 +60,20 @@ pub next-spec : {M : Type 1} → statement M
 next-spec =
     tie.close
     (tie.spec
-    run-end-requires
+    (λ c κs. search needs)
     returns
-    shared-slice-read-b
-    is-such-requires
-    run-end-requires-2
-    sub-word-at
-    part-word-at-start
+    (λ c. search needs)
+    (λ c κs. search needs)
+    (λ c κs. search needs)
+    (λ c. search needs)
+    (λ c. search needs)
     part-word-at-end
-    word-at-requires
+    (λ c κs. search needs)
     returns-2
-    string-at-requires
-    colon-at-requires
-    add-symbol-at
-    symbol-at-requires
+    (λ c κs. search needs)
+    (λ c κs. search needs)
+    (λ c. search needs)
+    (λ c κs. search needs)
     returns-3
     returns-4
     returns-5)

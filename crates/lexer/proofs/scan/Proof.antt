@@ -29,15 +29,6 @@ abbrev μ-loop : tie.MeasureT-loop
 loop-holds : tie.Need-loop-holds Inv-loop μ-loop
 loop-holds c = scan-starts most (now (c .before .args .text))
 
-next-requires : tie.Need-next-requires Inv-loop μ-loop
-next-requires c κs = search needs
-
-enum-known-found : tie.Need-enum-known-found Inv-loop μ-loop
-enum-known-found c = search needs
-
-enum-told : tie.Need-enum-told Inv-loop μ-loop
-enum-told c = search needs
-
 returns : tie.Need-returns Inv-loop μ-loop
 returns c =
     let e = c .enum-told .given .1 in
@@ -50,9 +41,6 @@ is-too-large-requires c κs =
 returns-2 : tie.Need-returns-2 Inv-loop μ-loop
 returns-2 c =
     scan-large most (now (c .before .before .before .before .before .before .before .before .args .text)) (c .before .before .before .before .before .before .loop .at) (c .before .before .before .before .before .before .loop .inv) small _ (sym (c .before .before .before .found .given .1) ∙ c .before .before .before .before .before .next .ensures) (sym (c .before .is-too-large .ensures) ∙ c .if1 .taken)
-
-fixed-of-requires : tie.Need-fixed-of-requires Inv-loop μ-loop
-fixed-of-requires c κs = search needs
 
 returns-3 : tie.Need-returns-3 Inv-loop μ-loop
 unfolding code-of
@@ -79,13 +67,13 @@ scan-spec =
     Inv-loop
     μ-loop
     loop-holds
-    next-requires
-    enum-known-found
-    enum-told
+    (λ c κs. search needs)
+    (λ c. search needs)
+    (λ c. search needs)
     returns
     is-too-large-requires
     returns-2
-    fixed-of-requires
+    (λ c κs. search needs)
     returns-3
     loop-less
     loop-again)

@@ -25,9 +25,6 @@ mul-value c = omega arith
 shared-slice-read-worth : tie.Need-shared-slice-read-worth Inv-loop μ-loop
 shared-slice-read-worth c = omega arith
 
-worth-requires : tie.Need-worth-requires Inv-loop μ-loop
-worth-requires c κs = search needs
-
 add-value : tie.Need-add-value Inv-loop μ-loop
 add-value c = omega (arith, c .before .shared-slice-known2 .given (c .before .before .before .loop .i))
 
@@ -68,7 +65,7 @@ value-of-spec =
     loop-holds
     mul-value
     shared-slice-read-worth
-    worth-requires
+    (λ c κs. search needs)
     add-value
     returns
     add-i

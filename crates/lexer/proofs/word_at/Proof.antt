@@ -15,21 +15,9 @@ use Rattle.lexer.proofs.word_at.Tie as tie
 tested : (such : ℕ → Bool) (w : List ℕ) (t : Bool) {r : Bool} → r ≡ all such w → r ≡ t → all such w ≡ t
 tested such w t e h = sym e ∙ h
 
-is-all-requires : tie.Need-is-all-requires
-is-all-requires c κs = search needs
-
-letter-word-requires : tie.Need-letter-word-requires
-letter-word-requires c κs = search needs
-
 returns : tie.Need-returns
 unfolding word such coded found
 returns c = rw (tested letter _ _ (c .before .before .is-all .ensures) (c .before .if1 .taken), ← c .before .before .before .before .pre, c .letter-word .ensures (c .before .before .before .before .args .p))
-
-is-all-requires-2 : tie.Need-is-all-requires-2
-is-all-requires-2 c κs = search needs
-
-value-of-requires : tie.Need-value-of-requires
-value-of-requires c κs = search needs
 
 returns-2 : tie.Need-returns-2
 unfolding word such coded found kind-of
@@ -43,10 +31,10 @@ pub word-at-spec : {M : Type 1} → statement M
 word-at-spec =
     tie.close
     (tie.spec
-    is-all-requires
-    letter-word-requires
+    (λ c κs. search needs)
+    (λ c κs. search needs)
     returns
-    is-all-requires-2
-    value-of-requires
+    (λ c κs. search needs)
+    (λ c κs. search needs)
     returns-2
     returns-3)

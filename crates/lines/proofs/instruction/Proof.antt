@@ -9,36 +9,6 @@ use borrow.Author.Needs.{needs}
 use Rattle.lines.proofs.instruction.Statement.{statement}
 use Rattle.lines.proofs.instruction.Tie as tie
 
-put-natural-requires : tie.Need-put-natural-requires
-put-natural-requires c κs = search needs
-
-slice-aggregate-put : tie.Need-slice-aggregate-put
-slice-aggregate-put c = search needs
-
-put-requires : tie.Need-put-requires
-put-requires c κs = search needs
-
-put-integer-requires : tie.Need-put-integer-requires
-put-integer-requires c κs = search needs
-
-slice-aggregate-put-2 : tie.Need-slice-aggregate-put-2
-slice-aggregate-put-2 c = search needs
-
-put-requires-2 : tie.Need-put-requires-2
-put-requires-2 c κs = search needs
-
-put-integer-requires-2 : tie.Need-put-integer-requires-2
-put-integer-requires-2 c κs = search needs
-
-slice-aggregate-put-3 : tie.Need-slice-aggregate-put-3
-slice-aggregate-put-3 c = search needs
-
-put-requires-3 : tie.Need-put-requires-3
-put-requires-3 c κs = search needs
-
-same-length : tie.Need-same-length
-same-length c = search needs
-
 returns : tie.Need-returns
 unfolding instruction-line bytes bytes-from
 returns c = (
@@ -50,14 +20,14 @@ pub instruction-spec : {M : Type 1} → statement M
 instruction-spec =
     tie.close
     (tie.spec
-    put-natural-requires
-    slice-aggregate-put
-    put-requires
-    put-integer-requires
-    slice-aggregate-put-2
-    put-requires-2
-    put-integer-requires-2
-    slice-aggregate-put-3
-    put-requires-3
-    same-length
+    (λ c κs. search needs)
+    (λ c. search needs)
+    (λ c κs. search needs)
+    (λ c κs. search needs)
+    (λ c. search needs)
+    (λ c κs. search needs)
+    (λ c κs. search needs)
+    (λ c. search needs)
+    (λ c κs. search needs)
+    (λ c. search needs)
     returns)

@@ -22,38 +22,11 @@ returns c = added-past _ _ _ (c .if1 .taken)
 loop-holds : tie.Need-loop-holds Inv-loop μ-loop
 loop-holds c = (added-none (now (c .before .args .bytes)) (now (c .before .args .page)) (c .before .args .at), search needs, omega arith, omega arith)
 
-add-if2 : tie.Need-add-if2 Inv-loop μ-loop
-add-if2 c = search needs
-
-same-length : tie.Need-same-length Inv-loop μ-loop
-same-length c = search needs
-
 returns-2 : tie.Need-returns-2 Inv-loop μ-loop
 returns-2 c = added-full (now (c .before .before .before .before .args .bytes)) (c .before .before .loop .page) (now (c .before .before .before .before .args .page)) (c .before .before .before .before .args .at) (c .before .before .loop .i) (omega arith) (omega arith) (c .before .before .loop .inv .1) (c .before .before .loop .inv .0)
 
-shared-slice-read-page : tie.Need-shared-slice-read-page Inv-loop μ-loop
-shared-slice-read-page c = search needs
-
-add-page : tie.Need-add-page Inv-loop μ-loop
-add-page c = search needs
-
-slice-write-page : tie.Need-slice-write-page Inv-loop μ-loop
-slice-write-page c = search needs
-
-add-i : tie.Need-add-i Inv-loop μ-loop
-add-i c = search needs
-
-loop-less : tie.Need-loop-less Inv-loop μ-loop
-loop-less c = search needs
-
 loop-again : tie.Need-loop-again Inv-loop μ-loop
 loop-again c = (added-on (now (c .before .before .before .before .before .args .bytes)) (c .before .before .before .loop .page) (sets (now (c .before .before .before .before .before .args .page)) (c .before .before .before .before .before .args .at) (now (c .before .before .before .before .before .args .bytes))) (c .before .before .before .before .before .args .at) (c .before .before .before .loop .i) (c .before .before .loop-test .taken) (c .before .before .before .loop .inv .0), simp length-set (c .before .before .before .loop .inv .1), omega arith, omega arith)
-
-add-result : tie.Need-add-result Inv-loop μ-loop
-add-result c = search needs
-
-same-length-2 : tie.Need-same-length-2 Inv-loop μ-loop
-same-length-2 c = search needs
 
 returns-3 : tie.Need-returns-3 Inv-loop μ-loop
 returns-3 c = added-all (now (c .before .before .before .args .bytes)) (c .before .loop .page) (now (c .before .before .before .args .page)) (c .before .before .before .args .at) (c .before .loop .i) (omega arith) (c .before .loop .inv .2) (c .before .loop .inv .1) (c .before .loop .inv .0)
@@ -66,15 +39,15 @@ put-spec =
     μ-loop
     returns
     loop-holds
-    add-if2
-    same-length
+    (λ c. search needs)
+    (λ c. search needs)
     returns-2
-    shared-slice-read-page
-    add-page
-    slice-write-page
-    add-i
-    loop-less
+    (λ c. search needs)
+    (λ c. search needs)
+    (λ c. search needs)
+    (λ c. search needs)
+    (λ c. search needs)
     loop-again
-    add-result
-    same-length-2
+    (λ c. search needs)
+    (λ c. search needs)
     returns-3)

@@ -44,9 +44,6 @@ did c =
     let e : lends (now (c .before .before .before .before .before .before .before .args .text)) (now (c .before .before .before .before .before .before .before .args .table)) (now (c .before .before .before .before .before .before .before .args .readings)) (c .before .before .before .before .loop .stack) (c .before .before .before .before .loop .out) ≡ lent (c .before .before .before .before .before .before .before) = rw (g .stack, g .size) in
     rw e at (c .step .ensures (now (a .out)) (rw e g))
 
-enum-known-m : tie.Need-enum-known-m Inv-loop μ-loop
-enum-known-m c = search needs
-
 loop-less : tie.Need-loop-less Inv-loop μ-loop
 loop-less c = omega arith
 
@@ -54,9 +51,6 @@ loop-again : tie.Need-loop-again Inv-loop μ-loop
 loop-again c = let d = rw (c .before .m .given .1) at (did (c .before .before .before .before .before .before)) in
     let k : c .before .before .before .before .before .before .before .before .before .before .before .before .before .args .budget - c .before .before .before .before .before .before .before .before .before .before .loop .steps ≡ suc (c .before .before .before .before .before .before .before .before .before .before .before .before .before .args .budget - (c .before .before .before .before .before .before .before .before .before .before .loop .steps + 1)) = omega arith in
     (d .left, (omega arith, sym (run-goes (lent (c .before .before .before .before .before .before .before .before .before .before .before .before .before)) (c .before .before .before .before .before .before .before .before .before .before .before .before .before .args .budget - (c .before .before .before .before .before .before .before .before .before .before .loop .steps + 1)) _ _ _ (d .seen)) ∙ (rw (← k) (c .before .before .before .before .before .before .before .before .before .before .loop .inv .1 .1))))
-
-enum-known-m-2 : tie.Need-enum-known-m-2 Inv-loop μ-loop
-enum-known-m-2 c = search needs
 
 same-length : tie.Need-same-length Inv-loop μ-loop
 same-length c = c .before .before .before .before .before .before .step .kept .1 .1 .1 .1 .0 ∙ c .before .before .before .before .before .before .before .before .before .before .loop .inv .0 .stack
@@ -89,10 +83,10 @@ follow-spec =
     loop-holds
     add-steps
     step-requires
-    enum-known-m
+    (λ c. search needs)
     loop-less
     loop-again
-    enum-known-m-2
+    (λ c. search needs)
     same-length
     same-length-2
     returns

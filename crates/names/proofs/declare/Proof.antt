@@ -11,15 +11,6 @@ returns : tie.Need-returns
 unfolding Declares
 returns c = (c .if1 .taken, refl)
 
-with-one-more-requires : tie.Need-with-one-more-requires
-with-one-more-requires c κs = search needs
-
-enter-requires : tie.Need-enter-requires
-enter-requires c κs = search needs
-
-same-length : tie.Need-same-length
-same-length c = search needs
-
 returns-2 : tie.Need-returns-2
 unfolding Declares entered
 returns-2 c = (omega arith, c .before .before .before .before .before .with-one-more .ensures, rw (lt-ltb _ _ (c .before .before .before .before .if2 .taken)) (c .before .before .enter .ensures))
@@ -31,4 +22,4 @@ returns-3 c = (omega arith, c .before .with-one-more .ensures, rw (le-ltb _ _ (c
 pub declare-spec : {M : Type 1} → statement M
 declare-spec =
     tie.close
-    (tie.spec returns with-one-more-requires enter-requires same-length returns-2 returns-3)
+    (tie.spec returns (λ c κs. search needs) (λ c κs. search needs) (λ c. search needs) returns-2 returns-3)

@@ -7,44 +7,14 @@ use borrow.Author.Needs.{needs}
 use Rattle.names.proofs.enter.Statement.{statement}
 use Rattle.names.proofs.enter.Tie as tie
 
-mul-at : tie.Need-mul-at
-mul-at c = search needs
-
-mul-names : tie.Need-mul-names
-mul-names c = search needs
-
-slice-write-names : tie.Need-slice-write-names
-slice-write-names c = search needs
-
-add-names : tie.Need-add-names
-add-names c = search needs
-
-mul-names-2 : tie.Need-mul-names-2
-mul-names-2 c = search needs
-
 slice-write-names-2 : tie.Need-slice-write-names-2
 slice-write-names-2 c = simp length-set (omega arith)
-
-add-names-2 : tie.Need-add-names-2
-add-names-2 c = search needs
-
-mul-names-3 : tie.Need-mul-names-3
-mul-names-3 c = search needs
 
 slice-write-names-3 : tie.Need-slice-write-names-3
 slice-write-names-3 c = simp length-set (omega arith)
 
-add-names-3 : tie.Need-add-names-3
-add-names-3 c = search needs
-
-mul-names-4 : tie.Need-mul-names-4
-mul-names-4 c = search needs
-
 slice-write-names-4 : tie.Need-slice-write-names-4
 slice-write-names-4 c = simp length-set (omega arith)
-
-same-length : tie.Need-same-length
-same-length c = search needs
 
 returns : tie.Need-returns
 returns c =
@@ -58,17 +28,17 @@ pub enter-spec : {M : Type 1} → statement M
 enter-spec =
     tie.close
     (tie.spec
-    mul-at
-    mul-names
-    slice-write-names
-    add-names
-    mul-names-2
+    (λ c. search needs)
+    (λ c. search needs)
+    (λ c. search needs)
+    (λ c. search needs)
+    (λ c. search needs)
     slice-write-names-2
-    add-names-2
-    mul-names-3
+    (λ c. search needs)
+    (λ c. search needs)
     slice-write-names-3
-    add-names-3
-    mul-names-4
+    (λ c. search needs)
+    (λ c. search needs)
     slice-write-names-4
-    same-length
+    (λ c. search needs)
     returns)

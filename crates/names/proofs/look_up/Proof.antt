@@ -15,12 +15,6 @@ Inv-loop text names p e word k₀ k = (k ≤ length names / 4) × (found (visibl
 abbrev μ-loop : tie.MeasureT-loop
 μ-loop text names p e word k₀ k = k
 
-part-requires : tie.Need-part-requires Inv-loop μ-loop
-part-requires c κs = search needs
-
-smaller-requires : tie.Need-smaller-requires Inv-loop μ-loop
-smaller-requires c κs = search needs
-
 loop-holds : tie.Need-loop-holds Inv-loop μ-loop
 loop-holds c = (omega arith, refl)
 
@@ -61,8 +55,8 @@ look-up-spec =
     (tie.spec
     Inv-loop
     μ-loop
-    part-requires
-    smaller-requires
+    (λ c κs. search needs)
+    (λ c κs. search needs)
     loop-holds
     sub-k
     is-named-requires

@@ -4,12 +4,9 @@ use borrow.Author.Needs.{needs}
 use Rattle.names.proofs.open.Statement.{statement}
 use Rattle.names.proofs.open.Tie as tie
 
-one-more-requires : tie.Need-one-more-requires
-one-more-requires c κs = search needs
-
 returns : tie.Need-returns
 unfolding opened-scope
 returns c = rw (c .one-more .ensures)
 
 pub open-spec : {M : Type 1} → statement M
-open-spec = tie.close (tie.spec one-more-requires returns)
+open-spec = tie.close (tie.spec (λ c κs. search needs) returns)

@@ -17,24 +17,6 @@ Inv-loop bytes kind n₀ i₀ n i = (n ≤ i) × (n + count (such kind) (drop i 
 abbrev μ-loop : tie.MeasureT-loop
 μ-loop bytes kind n₀ i₀ n i = length bytes - i
 
-loop-holds : tie.Need-loop-holds Inv-loop μ-loop
-loop-holds c = search needs
-
-shared-slice-read-is-such : tie.Need-shared-slice-read-is-such Inv-loop μ-loop
-shared-slice-read-is-such c = search needs
-
-is-such-requires : tie.Need-is-such-requires Inv-loop μ-loop
-is-such-requires c κs = search needs
-
-add-n : tie.Need-add-n Inv-loop μ-loop
-add-n c = search needs
-
-add-i : tie.Need-add-i Inv-loop μ-loop
-add-i c = search needs
-
-loop-less : tie.Need-loop-less Inv-loop μ-loop
-loop-less c = search needs
-
 loop-again : tie.Need-loop-again Inv-loop μ-loop
 loop-again c =
     let s = sym (c .before .is-such .ensures) in
@@ -50,11 +32,11 @@ count-spec =
     (tie.spec
     Inv-loop
     μ-loop
-    loop-holds
-    shared-slice-read-is-such
-    is-such-requires
-    add-n
-    add-i
-    loop-less
+    (λ c. search needs)
+    (λ c. search needs)
+    (λ c κs. search needs)
+    (λ c. search needs)
+    (λ c. search needs)
+    (λ c. search needs)
     loop-again
     returns)

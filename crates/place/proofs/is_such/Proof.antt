@@ -7,24 +7,6 @@ use borrow.Author.Needs.{needs}
 use Rattle.place.proofs.is_such.Statement.{statement}
 use Rattle.place.proofs.is_such.Tie as tie
 
-enum-told : tie.Need-enum-told
-enum-told c = search needs
-
-enum-told-2 : tie.Need-enum-told-2
-enum-told-2 c = search needs
-
-enum-told-3 : tie.Need-enum-told-3
-enum-told-3 c = search needs
-
-goes-on-requires : tie.Need-goes-on-requires
-goes-on-requires c κs = search needs
-
-enum-told-4 : tie.Need-enum-told-4
-enum-told-4 c = search needs
-
-goes-on-requires-2 : tie.Need-goes-on-requires-2
-goes-on-requires-2 c κs = search needs
-
 returns : tie.Need-returns
 unfolding such feed no-feed begins
 returns c = rw (c .enum-told .given .1) refl
@@ -45,12 +27,12 @@ pub is-such-spec : {M : Type 1} → statement M
 is-such-spec =
     tie.close
     (tie.spec
-    enum-told
-    enum-told-2
-    enum-told-3
-    goes-on-requires
-    enum-told-4
-    goes-on-requires-2
+    (λ c. search needs)
+    (λ c. search needs)
+    (λ c. search needs)
+    (λ c κs. search needs)
+    (λ c. search needs)
+    (λ c κs. search needs)
     returns
     returns-2
     returns-3

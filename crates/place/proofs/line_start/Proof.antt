@@ -15,27 +15,12 @@ Inv-loop text p i₀ i = (i ≤ p) × (line-start text i ≡ line-start text p)
 abbrev μ-loop : tie.MeasureT-loop
 μ-loop text p i₀ i = i
 
-loop-holds : tie.Need-loop-holds Inv-loop μ-loop
-loop-holds c = search needs
-
-sub-is-such : tie.Need-sub-is-such Inv-loop μ-loop
-sub-is-such c = search needs
-
 shared-slice-read-is-such : tie.Need-shared-slice-read-is-such Inv-loop μ-loop
 shared-slice-read-is-such c = omega arith
-
-is-such-requires : tie.Need-is-such-requires Inv-loop μ-loop
-is-such-requires c κs = search needs
 
 returns : tie.Need-returns Inv-loop μ-loop
 unfolding such
 returns c = start-here _ _ (c .before .before .before .loop-test .taken) (sym (c .before .is-such .ensures) ∙ c .if1 .taken) ∙ c .before .before .before .before .loop .inv .1
-
-sub-i : tie.Need-sub-i Inv-loop μ-loop
-sub-i c = search needs
-
-loop-less : tie.Need-loop-less Inv-loop μ-loop
-loop-less c = search needs
 
 loop-again : tie.Need-loop-again Inv-loop μ-loop
 unfolding such
@@ -50,12 +35,12 @@ line-start-spec =
     (tie.spec
     Inv-loop
     μ-loop
-    loop-holds
-    sub-is-such
+    (λ c. search needs)
+    (λ c. search needs)
     shared-slice-read-is-such
-    is-such-requires
+    (λ c κs. search needs)
     returns
-    sub-i
-    loop-less
+    (λ c. search needs)
+    (λ c. search needs)
     loop-again
     returns-2)

@@ -7,41 +7,20 @@ use borrow.Author.Needs.{needs}
 use Rattle.place.proofs.put_marked.Statement.{statement}
 use Rattle.place.proofs.put_marked.Tie as tie
 
-shown-from-requires : tie.Need-shown-from-requires
-shown-from-requires c κs = search needs
-
-shown-to-requires : tie.Need-shown-to-requires
-shown-to-requires c κs = search needs
-
 sub-put-line : tie.Need-sub-put-line
 sub-put-line c = from-fits _ _ _ (c .before .before .shown-from .ensures)
 
 part-put-line-start : tie.Need-part-put-line-start
 part-put-line-start c = from-fits _ _ _ (c .before .before .shown-from .ensures)
 
-part-put-line-end : tie.Need-part-put-line-end
-part-put-line-end c = search needs
-
 slice-aggregate-put-line : tie.Need-slice-aggregate-put-line
 slice-aggregate-put-line c = sym (length-take-le _ _ (to-fits _ _ _ (c .before .before .before .shown-to .ensures)))
-
-put-line-requires : tie.Need-put-line-requires
-put-line-requires c κs = search needs
 
 sub-put-mark : tie.Need-sub-put-mark
 sub-put-mark c = from-fits _ _ _ (c .before .before .before .before .before .before .before .before .shown-from .ensures)
 
 part-put-mark-start : tie.Need-part-put-mark-start
 part-put-mark-start c = from-fits _ _ _ (c .before .before .before .before .before .before .before .before .shown-from .ensures)
-
-part-put-mark-end : tie.Need-part-put-mark-end
-part-put-mark-end c = search needs
-
-put-mark-requires : tie.Need-put-mark-requires
-put-mark-requires c κs = search needs
-
-same-length : tie.Need-same-length
-same-length c = search needs
 
 returns : tie.Need-returns
 returns c = same-adds (marked-parts _ _ _ _ _ (c .before .before .before .before .before .before .before .before .before .before .before .before .shown-from .ensures) (c .before .before .before .before .before .before .before .before .before .before .before .shown-to .ensures)) (adds-then (c .before .before .before .before .before .before .before .put-line .ensures) (c .before .before .put-mark .ensures))
@@ -50,16 +29,16 @@ pub put-marked-spec : {M : Type 1} → statement M
 put-marked-spec =
     tie.close
     (tie.spec
-    shown-from-requires
-    shown-to-requires
+    (λ c κs. search needs)
+    (λ c κs. search needs)
     sub-put-line
     part-put-line-start
-    part-put-line-end
+    (λ c. search needs)
     slice-aggregate-put-line
-    put-line-requires
+    (λ c κs. search needs)
     sub-put-mark
     part-put-mark-start
-    part-put-mark-end
-    put-mark-requires
-    same-length
+    (λ c. search needs)
+    (λ c κs. search needs)
+    (λ c. search needs)
     returns)

@@ -8,9 +8,6 @@ use borrow.Author.Needs.{needs}
 use Rattle.place.proofs.put_marked_line.Statement.{statement}
 use Rattle.place.proofs.put_marked_line.Tie as tie
 
-within-requires : tie.Need-within-requires
-within-requires c κs = search needs
-
 line-start-requires : tie.Need-line-start-requires
 line-start-requires c κs = within-fits _ _ (c .within .ensures)
 
@@ -19,12 +16,6 @@ sub-run c = within-fits _ _ (c .before .within .ensures)
 
 part-run-start : tie.Need-part-run-start
 part-run-start c = within-fits _ _ (c .before .within .ensures)
-
-part-run-end : tie.Need-part-run-end
-part-run-end c = search needs
-
-run-requires : tie.Need-run-requires
-run-requires c κs = search needs
 
 add-end : tie.Need-add-end
 unfolding such
@@ -39,21 +30,9 @@ part-put-marked-start c = start-fits _ _ (c .before .before .before .line-start 
 part-put-marked-end : tie.Need-part-put-marked-end
 part-put-marked-end c = within-fits _ _ (c .before .before .before .before .within .ensures)
 
-sub-put-marked-2 : tie.Need-sub-put-marked-2
-sub-put-marked-2 c = search needs
-
-part-put-marked-start-2 : tie.Need-part-put-marked-start-2
-part-put-marked-start-2 c = search needs
-
 part-put-marked-end-2 : tie.Need-part-put-marked-end-2
 unfolding such
 part-put-marked-end-2 c = end-fits (now (c .before .before .before .before .before .before .before .before .args .text)) (c .before .before .before .before .before .within .result) (c .before .before .run .result) (within-fits _ _ (c .before .before .before .before .before .within .ensures)) (c .before .before .run .ensures)
-
-put-marked-requires : tie.Need-put-marked-requires
-put-marked-requires c κs = search needs
-
-same-length : tie.Need-same-length
-same-length c = search needs
 
 returns : tie.Need-returns
 unfolding such
@@ -63,19 +42,19 @@ pub put-marked-line-spec : {M : Type 1} → statement M
 put-marked-line-spec =
     tie.close
     (tie.spec
-    within-requires
+    (λ c κs. search needs)
     line-start-requires
     sub-run
     part-run-start
-    part-run-end
-    run-requires
+    (λ c. search needs)
+    (λ c κs. search needs)
     add-end
     sub-put-marked
     part-put-marked-start
     part-put-marked-end
-    sub-put-marked-2
-    part-put-marked-start-2
+    (λ c. search needs)
+    (λ c. search needs)
     part-put-marked-end-2
-    put-marked-requires
-    same-length
+    (λ c κs. search needs)
+    (λ c. search needs)
     returns)

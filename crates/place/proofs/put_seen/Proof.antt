@@ -19,38 +19,11 @@ Inv-loop page₀ at bytes next₀ i₀ page next i = Added (map seen (take i byt
 abbrev μ-loop : tie.MeasureT-loop
 μ-loop page₀ at bytes next₀ i₀ page next i = length bytes - i
 
-slice-aggregate-put : tie.Need-slice-aggregate-put Inv-loop μ-loop
-slice-aggregate-put c = search needs
-
-put-requires : tie.Need-put-requires Inv-loop μ-loop
-put-requires c κs = search needs
-
 loop-holds : tie.Need-loop-holds Inv-loop μ-loop
 loop-holds c = (adds-none _ _ (adds-within (c .before .before .put .ensures)), search needs, search needs)
 
-shared-slice-read-seen : tie.Need-shared-slice-read-seen Inv-loop μ-loop
-shared-slice-read-seen c = search needs
-
-seen-requires : tie.Need-seen-requires Inv-loop μ-loop
-seen-requires c κs = search needs
-
-slice-aggregate-put-2 : tie.Need-slice-aggregate-put-2 Inv-loop μ-loop
-slice-aggregate-put-2 c = search needs
-
-put-requires-2 : tie.Need-put-requires-2 Inv-loop μ-loop
-put-requires-2 c κs = search needs
-
-add-i : tie.Need-add-i Inv-loop μ-loop
-add-i c = search needs
-
-loop-less : tie.Need-loop-less Inv-loop μ-loop
-loop-less c = search needs
-
 loop-again : tie.Need-loop-again Inv-loop μ-loop
 loop-again c = (rw (seen-more (now (c .before .before .before .before .before .before .before .before .before .before .before .before .before .before .before .before .args .bytes)) (c .before .before .before .before .before .before .before .before .loop .i) (c .before .before .before .before .before .before .before .loop-test .taken), ← c .before .before .before .before .seen .ensures) (adds-then (c .before .before .before .before .before .before .before .before .loop .inv .0) (c .before .before .put2 .ensures)), search needs, search needs)
-
-same-length : tie.Need-same-length Inv-loop μ-loop
-same-length c = search needs
 
 returns : tie.Need-returns Inv-loop μ-loop
 returns c = adds-then (c .before .before .before .before .put .ensures) (rw (take-all (c .before .loop .i) (now (c .before .before .before .before .before .before .before .before .before .args .bytes)) (c .loop-test .left)) at (c .before .loop .inv .0))
@@ -61,15 +34,15 @@ put-seen-spec =
     (tie.spec
     Inv-loop
     μ-loop
-    slice-aggregate-put
-    put-requires
+    (λ c. search needs)
+    (λ c κs. search needs)
     loop-holds
-    shared-slice-read-seen
-    seen-requires
-    slice-aggregate-put-2
-    put-requires-2
-    add-i
-    loop-less
+    (λ c. search needs)
+    (λ c κs. search needs)
+    (λ c. search needs)
+    (λ c κs. search needs)
+    (λ c. search needs)
+    (λ c. search needs)
     loop-again
-    same-length
+    (λ c. search needs)
     returns)

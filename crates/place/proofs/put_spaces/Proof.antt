@@ -17,32 +17,11 @@ Inv-loop page₀ at n next₀ i₀ t7 page next i = Added (replicate {A = ℕ} i
 abbrev μ-loop : tie.MeasureT-loop
 μ-loop page₀ at n next₀ i₀ t7 page next i = n - i
 
-slice-aggregate-put : tie.Need-slice-aggregate-put Inv-loop μ-loop
-slice-aggregate-put c = search needs
-
-put-requires : tie.Need-put-requires Inv-loop μ-loop
-put-requires c κs = search needs
-
 loop-holds : tie.Need-loop-holds Inv-loop μ-loop
 loop-holds c = (adds-none _ _ (adds-within (c .before .before .put .ensures)), search needs, search needs, search needs)
 
-slice-aggregate-put-2 : tie.Need-slice-aggregate-put-2 Inv-loop μ-loop
-slice-aggregate-put-2 c = search needs
-
-put-requires-2 : tie.Need-put-requires-2 Inv-loop μ-loop
-put-requires-2 c κs = search needs
-
-add-i : tie.Need-add-i Inv-loop μ-loop
-add-i c = search needs
-
-loop-less : tie.Need-loop-less Inv-loop μ-loop
-loop-less c = search needs
-
 loop-again : tie.Need-loop-again Inv-loop μ-loop
 loop-again c = (rw (space-more (c .before .before .before .before .before .before .loop .i)) (adds-then (c .before .before .before .before .before .before .loop .inv .0) (c .before .before .put2 .ensures)), search needs, search needs, search needs)
-
-same-length : tie.Need-same-length Inv-loop μ-loop
-same-length c = search needs
 
 returns : tie.Need-returns Inv-loop μ-loop
 returns c = let e : c .before .loop .i ≡ c .before .before .before .before .before .before .before .before .args .n = omega arith in adds-then (c .before .before .before .before .put .ensures) (rw e at (c .before .loop .inv .0))
@@ -53,13 +32,13 @@ put-spaces-spec =
     (tie.spec
     Inv-loop
     μ-loop
-    slice-aggregate-put
-    put-requires
+    (λ c. search needs)
+    (λ c κs. search needs)
     loop-holds
-    slice-aggregate-put-2
-    put-requires-2
-    add-i
-    loop-less
+    (λ c. search needs)
+    (λ c κs. search needs)
+    (λ c. search needs)
+    (λ c. search needs)
     loop-again
-    same-length
+    (λ c. search needs)
     returns)

@@ -20,20 +20,8 @@ abbrev μ-loop : tie.MeasureT-loop
 loop-holds : tie.Need-loop-holds Inv-loop μ-loop
 loop-holds c = omega arith
 
-shared-slice-read-is-such : tie.Need-shared-slice-read-is-such Inv-loop μ-loop
-shared-slice-read-is-such c = search needs
-
-is-such-requires : tie.Need-is-such-requires Inv-loop μ-loop
-is-such-requires c κs = search needs
-
 returns : tie.Need-returns Inv-loop μ-loop
 returns c = run-stop _ _ (c .before .before .before .before .loop .i) (c .before .before .before .loop-test .taken) (sym (c .before .is-such .ensures) ∙ not-true _ (c .if1 .taken)) ∙ c .before .before .before .before .loop .inv
-
-add-i : tie.Need-add-i Inv-loop μ-loop
-add-i c = search needs
-
-loop-less : tie.Need-loop-less Inv-loop μ-loop
-loop-less c = search needs
 
 loop-again : tie.Need-loop-again Inv-loop μ-loop
 loop-again c = run-on _ _ (c .before .before .before .before .loop .i) (c .before .before .before .loop-test .taken) (sym (c .before .is-such .ensures) ∙ not-false _ (c .if1 .left)) ∙ c .before .before .before .before .loop .inv
@@ -48,10 +36,10 @@ run-spec =
     Inv-loop
     μ-loop
     loop-holds
-    shared-slice-read-is-such
-    is-such-requires
+    (λ c. search needs)
+    (λ c κs. search needs)
     returns
-    add-i
-    loop-less
+    (λ c. search needs)
+    (λ c. search needs)
     loop-again
     returns-2)

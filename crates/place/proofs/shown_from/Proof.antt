@@ -9,21 +9,6 @@ use Rattle.place.proofs.shown_from.Tie as tie
 returns : tie.Need-returns
 returns c = from-all _ _ _ (omega arith)
 
-sub-from : tie.Need-sub-from
-sub-from c = search needs
-
-sub-run : tie.Need-sub-run
-sub-run c = search needs
-
-part-run-start : tie.Need-part-run-start
-part-run-start c = search needs
-
-part-run-end : tie.Need-part-run-end
-part-run-end c = search needs
-
-run-requires : tie.Need-run-requires
-run-requires c κs = search needs
-
 returns-2 : tie.Need-returns-2
 unfolding such
 returns-2 c = from-cut _ _ _ _ (omega arith) (c .run .ensures)
@@ -36,10 +21,10 @@ shown-from-spec =
     tie.close
     (tie.spec
     returns
-    sub-from
-    sub-run
-    part-run-start
-    part-run-end
-    run-requires
+    (λ c. search needs)
+    (λ c. search needs)
+    (λ c. search needs)
+    (λ c. search needs)
+    (λ c κs. search needs)
     add-result
     returns-2)

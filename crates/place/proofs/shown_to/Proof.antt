@@ -9,26 +9,14 @@ use borrow.Author.Needs.{needs}
 use Rattle.place.proofs.shown_to.Statement.{statement}
 use Rattle.place.proofs.shown_to.Tie as tie
 
-within-requires : tie.Need-within-requires
-within-requires c κs = search needs
-
 sub-others : tie.Need-sub-others
 sub-others c = within-fits _ _ (c .within .ensures)
 
 part-others-start : tie.Need-part-others-start
 part-others-start c = within-fits _ _ (c .within .ensures)
 
-part-others-end : tie.Need-part-others-end
-part-others-end c = search needs
-
-within-requires-2 : tie.Need-within-requires-2
-within-requires-2 c κs = search needs
-
 slice-aggregate-run : tie.Need-slice-aggregate-run
 slice-aggregate-run c = sym (length-take-le _ _ (within-fits _ _ (c .before .within2 .ensures)))
-
-run-requires : tie.Need-run-requires
-run-requires c κs = search needs
 
 returns : tie.Need-returns
 unfolding such
@@ -41,12 +29,12 @@ pub shown-to-spec : {M : Type 1} → statement M
 shown-to-spec =
     tie.close
     (tie.spec
-    within-requires
+    (λ c κs. search needs)
     sub-others
     part-others-start
-    part-others-end
-    within-requires-2
+    (λ c. search needs)
+    (λ c κs. search needs)
     slice-aggregate-run
-    run-requires
+    (λ c κs. search needs)
     add-result
     returns)

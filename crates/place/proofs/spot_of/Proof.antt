@@ -12,17 +12,11 @@ use Rattle.place.proofs.Places.{count-take, within-fits, start-fits}
 use Rattle.place.proofs.spot_of.Statement.{statement}
 use Rattle.place.proofs.spot_of.Tie as tie
 
-within-requires : tie.Need-within-requires
-within-requires c κs = search needs
-
 line-start-requires : tie.Need-line-start-requires
 line-start-requires c κs = within-fits _ _ (c .within .ensures)
 
 slice-aggregate-count : tie.Need-slice-aggregate-count
 slice-aggregate-count c = sym (length-take-le _ _ (within-fits _ _ (c .before .before .within .ensures)))
-
-count-requires : tie.Need-count-requires
-count-requires c κs = search needs
 
 sub-count : tie.Need-sub-count
 sub-count c = start-fits _ _ (c .before .before .line-start .ensures)
@@ -32,9 +26,6 @@ part-count-start c = start-fits _ _ (c .before .before .line-start .ensures)
 
 part-count-end : tie.Need-part-count-end
 part-count-end c = within-fits _ _ (c .before .before .before .within .ensures)
-
-count-requires-2 : tie.Need-count-requires-2
-count-requires-2 c κs = search needs
 
 add-t11 : tie.Need-add-t11
 add-t11 c = let h = within-fits _ _ (c .before .before .before .before .before .within .ensures) in omega (arith, count-take _ (c .before .before .before .before .before .within .result) (now (c .before .before .before .before .before .before .before .args .text)) (c .before .before .count .ensures))
@@ -50,14 +41,14 @@ pub spot-of-spec : {M : Type 1} → statement M
 spot-of-spec =
     tie.close
     (tie.spec
-    within-requires
+    (λ c κs. search needs)
     line-start-requires
     slice-aggregate-count
-    count-requires
+    (λ c κs. search needs)
     sub-count
     part-count-start
     part-count-end
-    count-requires-2
+    (λ c κs. search needs)
     add-t11
     add-t14
     returns)

@@ -5,14 +5,8 @@ use borrow.Author.Needs.{needs}
 use Rattle.programs.proofs.feed.Statement.{statement}
 use Rattle.programs.proofs.feed.Tie as tie
 
-lesson-requires : tie.Need-lesson-requires
-lesson-requires c κs = search needs
-
-send-requires : tie.Need-send-requires
-send-requires c κs = search needs
-
 returns : tie.Need-returns
 returns c = tells sent (c .before .before .before .before .lesson .ensures) (c .send .ensures)
 
 pub feed-spec : {M : Type 1} → statement M
-feed-spec = tie.close (tie.spec lesson-requires send-requires returns)
+feed-spec = tie.close (tie.spec (λ c κs. search needs) (λ c κs. search needs) returns)

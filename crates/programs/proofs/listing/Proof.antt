@@ -16,24 +16,6 @@ use borrow.Author.Needs.{needs}
 use Rattle.programs.proofs.listing.Statement.{statement}
 use Rattle.programs.proofs.listing.Tie as tie
 
-slice-aggregate-compile : tie.Need-slice-aggregate-compile
-slice-aggregate-compile c = search needs
-
-compile-requires : tie.Need-compile-requires
-compile-requires c κs = search needs
-
-enum-known-a : tie.Need-enum-known-a
-enum-known-a c = search needs
-
-refused-requires : tie.Need-refused-requires
-refused-requires c κs = search needs
-
-enum-known-a-2 : tie.Need-enum-known-a-2
-enum-known-a-2 c = search needs
-
-accepted-requires : tie.Need-accepted-requires
-accepted-requires c κs = search needs
-
 mul-end : tie.Need-mul-end
 mul-end c = omega (arith, room _ _ _ (c .before .before .before .before .before .before .before .compile .ensures) (c .before .before .before .before .a2 .given .1))
 
@@ -42,9 +24,6 @@ array-share-prefix-table c = room _ _ _ (c .before .before .before .before .befo
 
 slice-aggregate-instructions : tie.Need-slice-aggregate-instructions
 slice-aggregate-instructions c = sym (length-take-le _ _ (room _ _ _ (c .before .before .before .before .before .before .before .before .before .compile .ensures) (c .before .before .before .before .before .before .a2 .given .1)))
-
-instructions-requires : tie.Need-instructions-requires
-instructions-requires c κs = search needs
 
 returns : tie.Need-returns
 unfolding tabled compiled
@@ -71,15 +50,15 @@ pub listing-spec : {M : Type 1} → statement M
 listing-spec =
     tie.close
     (tie.spec
-    slice-aggregate-compile
-    compile-requires
-    enum-known-a
-    refused-requires
-    enum-known-a-2
-    accepted-requires
+    (λ c. search needs)
+    (λ c κs. search needs)
+    (λ c. search needs)
+    (λ c κs. search needs)
+    (λ c. search needs)
+    (λ c κs. search needs)
     mul-end
     array-share-prefix-table
     slice-aggregate-instructions
-    instructions-requires
+    (λ c κs. search needs)
     returns
     returns-2)

@@ -12,8 +12,5 @@ returns c = sym (take-all _ _ (c .if1 .taken))
 slice-aggregate-result : tie.Need-slice-aggregate-result
 slice-aggregate-result c = sym (length-take-le _ _ (omega arith))
 
-returns-2 : tie.Need-returns-2
-returns-2 c = search needs
-
 pub output-spec : {M : Type 1} → statement M
-output-spec = tie.close (tie.spec returns slice-aggregate-result returns-2)
+output-spec = tie.close (tie.spec returns slice-aggregate-result (λ c. search needs))

@@ -9,33 +9,12 @@ use borrow.Author.Needs.{needs}
 use Rattle.programs.proofs.send.Statement.{statement}
 use Rattle.programs.proofs.send.Tie as tie
 
-enum-known-c : tie.Need-enum-known-c
-enum-known-c c = search needs
-
-refused-requires : tie.Need-refused-requires
-refused-requires c κs = search needs
-
-enum-known-c-2 : tie.Need-enum-known-c-2
-enum-known-c-2 c = search needs
-
-output-requires : tie.Need-output-requires
-output-requires c κs = search needs
-
-to-send-requires : tie.Need-to-send-requires
-to-send-requires c κs = search needs
-
-put-requires : tie.Need-put-requires
-put-requires c κs = search needs
-
 returns : tie.Need-returns
 returns c =
     let l : length (now (c .before .before .before .before .before .before .before .before .before .before .args .room)) ≤ length (now (c .before .before .before .before .before .before .before .before .before .before .args .page)) = search needs in
     let few = output-short (c .before .before .before .before .before .before .before .before .c2 .given .0 .0 .length) (now (c .before .before .before .before .before .before .before .before .before .before .args .room)) in
     let all = rw (c .before .before .before .to-send .ensures, c .before .before .before .before .before .output .ensures) at (c .before .before .put .ensures) in
     sent-ran (now (c .before .before .before .before .before .before .before .before .before .before .args .room)) (c .before .before .before .before .before .before .before .before .c2 .given .1) (omega arith) all (c .if1 .taken)
-
-ending-requires : tie.Need-ending-requires
-ending-requires c κs = search needs
 
 returns-2 : tie.Need-returns-2
 returns-2 c =
@@ -57,13 +36,13 @@ pub send-spec : {M : Type 1} → statement M
 send-spec =
     tie.close
     (tie.spec
-    enum-known-c
-    refused-requires
-    enum-known-c-2
-    output-requires
-    to-send-requires
-    put-requires
+    (λ c. search needs)
+    (λ c κs. search needs)
+    (λ c. search needs)
+    (λ c κs. search needs)
+    (λ c κs. search needs)
+    (λ c κs. search needs)
     returns
-    ending-requires
+    (λ c κs. search needs)
     returns-2
     returns-3)

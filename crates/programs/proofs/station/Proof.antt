@@ -5,14 +5,8 @@ use borrow.Author.Needs.{needs}
 use Rattle.programs.proofs.station.Statement.{statement}
 use Rattle.programs.proofs.station.Tie as tie
 
-lesson-requires : tie.Need-lesson-requires
-lesson-requires c κs = search needs
-
-tell-requires : tie.Need-tell-requires
-tell-requires c κs = search needs
-
 returns : tie.Need-returns
 returns c = tells told (c .before .before .before .lesson .ensures) (c .tell .ensures)
 
 pub station-spec : {M : Type 1} → statement M
-station-spec = tie.close (tie.spec lesson-requires tell-requires returns)
+station-spec = tie.close (tie.spec (λ c κs. search needs) (λ c κs. search needs) returns)

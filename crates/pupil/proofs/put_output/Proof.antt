@@ -8,24 +8,9 @@ use borrow.Author.Needs.{needs}
 use Rattle.pupil.proofs.put_output.Statement.{statement}
 use Rattle.pupil.proofs.put_output.Tie as tie
 
-slice-aggregate-put : tie.Need-slice-aggregate-put
-slice-aggregate-put c = search needs
-
-put-requires : tie.Need-put-requires
-put-requires c κs = search needs
-
-same-length : tie.Need-same-length
-same-length c = search needs
-
 returns : tie.Need-returns
 unfolding shown-output bytes bytes-from
 returns c = rw (eq-eqb (length (now (c .before .before .before .before .before .before .before .before .args .output))) 0 (c .before .before .before .before .before .if1 .taken)) (c .before .before .put .ensures)
-
-put-requires-2 : tie.Need-put-requires-2
-put-requires-2 c κs = search needs
-
-same-length-2 : tie.Need-same-length-2
-same-length-2 c = search needs
 
 returns-2 : tie.Need-returns-2
 unfolding shown-output
@@ -35,10 +20,10 @@ pub put-output-spec : {M : Type 1} → statement M
 put-output-spec =
     tie.close
     (tie.spec
-    slice-aggregate-put
-    put-requires
-    same-length
+    (λ c. search needs)
+    (λ c κs. search needs)
+    (λ c. search needs)
     returns
-    put-requires-2
-    same-length-2
+    (λ c κs. search needs)
+    (λ c. search needs)
     returns-2)

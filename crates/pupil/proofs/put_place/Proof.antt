@@ -11,33 +11,6 @@ use borrow.Author.Needs.{needs}
 use Rattle.pupil.proofs.put_place.Statement.{statement}
 use Rattle.pupil.proofs.put_place.Tie as tie
 
-spot-of-requires : tie.Need-spot-of-requires
-spot-of-requires c κs = search needs
-
-slice-aggregate-put-counted : tie.Need-slice-aggregate-put-counted
-slice-aggregate-put-counted c = search needs
-
-put-counted-requires : tie.Need-put-counted-requires
-put-counted-requires c κs = search needs
-
-slice-aggregate-put-counted-2 : tie.Need-slice-aggregate-put-counted-2
-slice-aggregate-put-counted-2 c = search needs
-
-put-counted-requires-2 : tie.Need-put-counted-requires-2
-put-counted-requires-2 c κs = search needs
-
-slice-aggregate-put : tie.Need-slice-aggregate-put
-slice-aggregate-put c = search needs
-
-put-requires : tie.Need-put-requires
-put-requires c κs = search needs
-
-put-marked-line-requires : tie.Need-put-marked-line-requires
-put-marked-line-requires c κs = search needs
-
-same-length : tie.Need-same-length
-same-length c = search needs
-
 returns : tie.Need-returns
 unfolding at-place counted bytes bytes-from
 returns c =
@@ -51,13 +24,13 @@ pub put-place-spec : {M : Type 1} → statement M
 put-place-spec =
     tie.close
     (tie.spec
-    spot-of-requires
-    slice-aggregate-put-counted
-    put-counted-requires
-    slice-aggregate-put-counted-2
-    put-counted-requires-2
-    slice-aggregate-put
-    put-requires
-    put-marked-line-requires
-    same-length
+    (λ c κs. search needs)
+    (λ c. search needs)
+    (λ c κs. search needs)
+    (λ c. search needs)
+    (λ c κs. search needs)
+    (λ c. search needs)
+    (λ c κs. search needs)
+    (λ c κs. search needs)
+    (λ c. search needs)
     returns)

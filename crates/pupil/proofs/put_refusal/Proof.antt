@@ -11,27 +11,6 @@ use borrow.Author.Needs.{needs}
 use Rattle.pupil.proofs.put_refusal.Statement.{statement}
 use Rattle.pupil.proofs.put_refusal.Tie as tie
 
-slice-aggregate-put-counted : tie.Need-slice-aggregate-put-counted
-slice-aggregate-put-counted c = search needs
-
-put-counted-requires : tie.Need-put-counted-requires
-put-counted-requires c κs = search needs
-
-put-where-requires : tie.Need-put-where-requires
-put-where-requires c κs = search needs
-
-put-why-requires : tie.Need-put-why-requires
-put-why-requires c κs = search needs
-
-slice-aggregate-put : tie.Need-slice-aggregate-put
-slice-aggregate-put c = search needs
-
-put-requires : tie.Need-put-requires
-put-requires c κs = search needs
-
-same-length : tie.Need-same-length
-same-length c = search needs
-
 fit-of : (c : tie.Start) → Fit (c .args .n)
 fit-of c = record { text = search needs; word = search needs; string = search needs; literal = search needs; nesting = search needs; declarations = search needs; instructions = search needs; budget = search needs; room = search needs }
 
@@ -45,11 +24,11 @@ pub put-refusal-spec : {M : Type 1} → statement M
 put-refusal-spec =
     tie.close
     (tie.spec
-    slice-aggregate-put-counted
-    put-counted-requires
-    put-where-requires
-    put-why-requires
-    slice-aggregate-put
-    put-requires
-    same-length
+    (λ c. search needs)
+    (λ c κs. search needs)
+    (λ c κs. search needs)
+    (λ c κs. search needs)
+    (λ c. search needs)
+    (λ c κs. search needs)
+    (λ c. search needs)
     returns)

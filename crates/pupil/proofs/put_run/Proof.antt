@@ -9,24 +9,6 @@ use borrow.Author.Needs.{needs}
 use Rattle.pupil.proofs.put_run.Statement.{statement}
 use Rattle.pupil.proofs.put_run.Tie as tie
 
-put-output-requires : tie.Need-put-output-requires
-put-output-requires c κs = search needs
-
-put-steps-requires : tie.Need-put-steps-requires
-put-steps-requires c κs = search needs
-
-put-how-requires : tie.Need-put-how-requires
-put-how-requires c κs = search needs
-
-slice-aggregate-put : tie.Need-slice-aggregate-put
-slice-aggregate-put c = search needs
-
-put-requires : tie.Need-put-requires
-put-requires c κs = search needs
-
-same-length : tie.Need-same-length
-same-length c = search needs
-
 fit-of : (c : tie.Start) → Fit (c .args .n)
 fit-of c = record { text = search needs; word = search needs; string = search needs; literal = search needs; nesting = search needs; declarations = search needs; instructions = search needs; budget = search needs; room = search needs }
 
@@ -41,10 +23,10 @@ pub put-run-spec : {M : Type 1} → statement M
 put-run-spec =
     tie.close
     (tie.spec
-    put-output-requires
-    put-steps-requires
-    put-how-requires
-    slice-aggregate-put
-    put-requires
-    same-length
+    (λ c κs. search needs)
+    (λ c κs. search needs)
+    (λ c κs. search needs)
+    (λ c. search needs)
+    (λ c κs. search needs)
+    (λ c. search needs)
     returns)

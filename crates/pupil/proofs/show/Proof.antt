@@ -9,27 +9,6 @@ use borrow.Author.Needs.{needs}
 use Rattle.pupil.proofs.show.Statement.{statement}
 use Rattle.pupil.proofs.show.Tie as tie
 
-enum-known-c : tie.Need-enum-known-c
-enum-known-c c = search needs
-
-number-requires : tie.Need-number-requires
-number-requires c κs = search needs
-
-put-refusal-requires : tie.Need-put-refusal-requires
-put-refusal-requires c κs = search needs
-
-enum-known-c-2 : tie.Need-enum-known-c-2
-enum-known-c-2 c = search needs
-
-output-requires : tie.Need-output-requires
-output-requires c κs = search needs
-
-put-run-requires : tie.Need-put-run-requires
-put-run-requires c κs = search needs
-
-status-of-requires : tie.Need-status-of-requires
-status-of-requires c κs = search needs
-
 returns : tie.Need-returns
 returns c =
     let l : 512 ≤ length (now (c .before .before .before .before .before .before .before .args .page)) = search needs in
@@ -46,12 +25,12 @@ pub show-spec : {M : Type 1} → statement M
 show-spec =
     tie.close
     (tie.spec
-    enum-known-c
-    number-requires
-    put-refusal-requires
-    enum-known-c-2
-    output-requires
-    put-run-requires
-    status-of-requires
+    (λ c. search needs)
+    (λ c κs. search needs)
+    (λ c κs. search needs)
+    (λ c. search needs)
+    (λ c κs. search needs)
+    (λ c κs. search needs)
+    (λ c κs. search needs)
     returns
     returns-2)

@@ -8,27 +8,12 @@ use borrow.Author.Needs.{needs}
 use Rattle.readings.proofs.digit_more.Statement.{statement}
 use Rattle.readings.proofs.digit_more.Tie as tie
 
-is-digit-requires : tie.Need-is-digit-requires
-is-digit-requires c κs = search needs
-
 returns : tie.Need-returns
 unfolding digit-more
 returns c = rw (sym (c .before .is-digit .ensures) ∙ not-true _ (c .if1 .taken))
 
-mul-m : tie.Need-mul-m
-mul-m c = search needs
-
 sub-m : tie.Need-sub-m
 sub-m c = digit-low _ (sym (c .before .is-digit .ensures) ∙ not-false _ (c .if1 .left))
-
-cast-m : tie.Need-cast-m
-cast-m c = search needs
-
-add-m : tie.Need-add-m
-add-m c = search needs
-
-is-in-range-requires : tie.Need-is-in-range-requires
-is-in-range-requires c κs = search needs
 
 returns-2 : tie.Need-returns-2
 unfolding digit-more
@@ -45,13 +30,13 @@ pub digit-more-spec : {M : Type 1} → statement M
 digit-more-spec =
     tie.close
     (tie.spec
-    is-digit-requires
+    (λ c κs. search needs)
     returns
-    mul-m
+    (λ c. search needs)
     sub-m
-    cast-m
-    add-m
-    is-in-range-requires
+    (λ c. search needs)
+    (λ c. search needs)
+    (λ c κs. search needs)
     returns-2
     cast-t11
     returns-3)

@@ -16,24 +16,6 @@ stays : (r : Reader) (l : List ℤ) (q : Phase) → r .phase ≡ q → held q (r
 unfolding ended
 stays r l q e same = rw (← e) at same
 
-enum-told : tie.Need-enum-told
-enum-told c = search needs
-
-enum-told-2 : tie.Need-enum-told-2
-enum-told-2 c = search needs
-
-enum-known-phase : tie.Need-enum-known-phase
-enum-known-phase c = search needs
-
-cast-store : tie.Need-cast-store
-cast-store c = search needs
-
-store-requires : tie.Need-store-requires
-store-requires c κs = search needs
-
-enum-told-3 : tie.Need-enum-told-3
-enum-told-3 c = search needs
-
 returns : tie.Need-returns
 unfolding ended-at
 returns c = stays (c .before .before .args .r) (now (c .before .before .args .numbers)) Between (c .enum-told .given .1) refl
@@ -41,9 +23,6 @@ returns c = stays (c .before .before .args .r) (now (c .before .before .args .nu
 returns-2 : tie.Need-returns-2
 unfolding ended ended-at
 returns-2 c = rw (c .enum-told2 .given .1)
-
-same-length : tie.Need-same-length
-same-length c = search needs
 
 returns-3 : tie.Need-returns-3
 unfolding ended ended-at
@@ -57,14 +36,14 @@ pub end-word-spec : {M : Type 1} → statement M
 end-word-spec =
     tie.close
     (tie.spec
-    enum-told
-    enum-told-2
-    enum-known-phase
-    cast-store
-    store-requires
-    enum-told-3
+    (λ c. search needs)
+    (λ c. search needs)
+    (λ c. search needs)
+    (λ c. search needs)
+    (λ c κs. search needs)
+    (λ c. search needs)
     returns
     returns-2
-    same-length
+    (λ c. search needs)
     returns-3
     returns-4)

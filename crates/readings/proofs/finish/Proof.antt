@@ -10,15 +10,9 @@ use Rattle.readings.proofs.finish.Tie as tie
 counted : Held → Taken
 counted h = record { count = h .reader .count; numbers = h .numbers }
 
-end-word-requires : tie.Need-end-word-requires
-end-word-requires c κs = search needs
-
-same-length : tie.Need-same-length
-same-length c = search needs
-
 returns : tie.Need-returns
 unfolding counted
 returns c = ap counted (c .before .end-word .ensures) ∙ at-end _
 
 pub finish-spec : {M : Type 1} → statement M
-finish-spec = tie.close (tie.spec end-word-requires same-length returns)
+finish-spec = tie.close (tie.spec (λ c κs. search needs) (λ c. search needs) returns)

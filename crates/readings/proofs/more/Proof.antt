@@ -30,9 +30,6 @@ loop-holds c = (refl, λ rest. refl)
 shared-slice-read-take-byte : tie.Need-shared-slice-read-take-byte Inv-loop μ-loop
 shared-slice-read-take-byte c = omega arith
 
-take-byte-requires : tie.Need-take-byte-requires Inv-loop μ-loop
-take-byte-requires c κs = search needs
-
 add-i : tie.Need-add-i Inv-loop μ-loop
 add-i c = omega arith
 
@@ -56,7 +53,7 @@ more-spec =
     μ-loop
     loop-holds
     shared-slice-read-take-byte
-    take-byte-requires
+    (λ c κs. search needs)
     add-i
     loop-less
     loop-again

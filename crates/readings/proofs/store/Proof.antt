@@ -12,9 +12,6 @@ use borrow.Author.Needs.{needs}
 use Rattle.readings.proofs.store.Statement.{statement}
 use Rattle.readings.proofs.store.Tie as tie
 
-is-in-range-requires : tie.Need-is-in-range-requires
-is-in-range-requires c κs = search needs
-
 returns : tie.Need-returns
 unfolding stored number
 returns c = rw (sym (c .before .is-in-range .ensures) ∙ not-true _ (c .if1 .taken))
@@ -26,18 +23,6 @@ returns-2 c = rw (sym (c .before .before .is-in-range .ensures) ∙ not-false _ 
 signed-requires : tie.Need-signed-requires
 signed-requires c κs = sym (c .before .before .is-in-range .ensures) ∙ not-false _ (c .before .if1 .left)
 
-mul-t8 : tie.Need-mul-t8
-mul-t8 c = search needs
-
-slice-set-from-numbers : tie.Need-slice-set-from-numbers
-slice-set-from-numbers c = search needs
-
-add-t8 : tie.Need-add-t8
-add-t8 c = search needs
-
-same-length : tie.Need-same-length
-same-length c = search needs
-
 returns-3 : tie.Need-returns-3
 unfolding stored number
 returns-3 c = let f : SFits w32 (c .signed .result) = search needs in rw (toZ-ofZ f, c .signed .ensures, sym (c .before .before .before .is-in-range .ensures) ∙ not-false _ (c .before .before .if1 .left), lt-ltb (c .before .before .before .before .args .count) (length (now (c .before .before .before .before .args .numbers))) (c .before .if2 .left))
@@ -46,12 +31,12 @@ pub store-spec : {M : Type 1} → statement M
 store-spec =
     tie.close
     (tie.spec
-    is-in-range-requires
+    (λ c κs. search needs)
     returns
     returns-2
     signed-requires
-    mul-t8
-    slice-set-from-numbers
-    add-t8
-    same-length
+    (λ c. search needs)
+    (λ c. search needs)
+    (λ c. search needs)
+    (λ c. search needs)
     returns-3)

@@ -7,20 +7,8 @@ use borrow.Author.Needs.{needs}
 use Rattle.readings.proofs.take_byte.Statement.{statement}
 use Rattle.readings.proofs.take_byte.Tie as tie
 
-is-separator-requires : tie.Need-is-separator-requires
-is-separator-requires c κs = search needs
-
-end-word-requires : tie.Need-end-word-requires
-end-word-requires c κs = search needs
-
-same-length : tie.Need-same-length
-same-length c = search needs
-
 returns : tie.Need-returns
 returns c rest = ap (λ (h : Held). takes (h .reader) (h .numbers) rest) (c .before .end-word .ensures) ∙ at-separator _ _ rest (sym (c .before .before .before .before .is-separator .ensures) ∙ c .before .before .before .if1 .taken)
-
-word-more-requires : tie.Need-word-more-requires
-word-more-requires c κs = search needs
 
 returns-2 : tie.Need-returns-2
 returns-2 c rest = rw (c .word-more .ensures) (at-other _ _ _ rest (sym (c .before .before .is-separator .ensures) ∙ c .before .if1 .left))
@@ -29,9 +17,9 @@ pub take-byte-spec : {M : Type 1} → statement M
 take-byte-spec =
     tie.close
     (tie.spec
-    is-separator-requires
-    end-word-requires
-    same-length
+    (λ c κs. search needs)
+    (λ c κs. search needs)
+    (λ c. search needs)
     returns
-    word-more-requires
+    (λ c κs. search needs)
     returns-2)

@@ -5,30 +5,9 @@ use borrow.Author.Needs.{needs}
 use Rattle.readings.proofs.word_more.Statement.{statement}
 use Rattle.readings.proofs.word_more.Tie as tie
 
-enum-told : tie.Need-enum-told
-enum-told c = search needs
-
 returns : tie.Need-returns
 unfolding word-more
 returns c = rw (c .before .enum-told .given .1, eq-eqb (c .before .before .before .args .b) 45 (c .if1 .taken))
-
-digit-more-requires : tie.Need-digit-more-requires
-digit-more-requires c κs = search needs
-
-enum-told-2 : tie.Need-enum-told-2
-enum-told-2 c = search needs
-
-digit-more-requires-2 : tie.Need-digit-more-requires-2
-digit-more-requires-2 c κs = search needs
-
-enum-known-phase : tie.Need-enum-known-phase
-enum-known-phase c = search needs
-
-digit-more-requires-3 : tie.Need-digit-more-requires-3
-digit-more-requires-3 c κs = search needs
-
-enum-told-3 : tie.Need-enum-told-3
-enum-told-3 c = search needs
 
 returns-2 : tie.Need-returns-2
 unfolding word-more
@@ -50,14 +29,14 @@ pub word-more-spec : {M : Type 1} → statement M
 word-more-spec =
     tie.close
     (tie.spec
-    enum-told
+    (λ c. search needs)
     returns
-    digit-more-requires
-    enum-told-2
-    digit-more-requires-2
-    enum-known-phase
-    digit-more-requires-3
-    enum-told-3
+    (λ c κs. search needs)
+    (λ c. search needs)
+    (λ c κs. search needs)
+    (λ c. search needs)
+    (λ c κs. search needs)
+    (λ c. search needs)
     returns-2
     returns-3
     returns-4

@@ -7,82 +7,25 @@ use borrow.Author.Needs.{needs}
 use Rattle.words.proofs.put_how.Statement.{statement}
 use Rattle.words.proofs.put_how.Tie as tie
 
-slice-aggregate-put : tie.Need-slice-aggregate-put
-slice-aggregate-put c = search needs
-
-put-requires : tie.Need-put-requires
-put-requires c κs = search needs
-
-same-length : tie.Need-same-length
-same-length c = search needs
-
 returns : tie.Need-returns
 unfolding how counted bytes bytes-from
 returns c = rw (eq-eqb (c .before .before .before .before .before .before .before .args .ending) 0 (c .before .before .before .before .before .if1 .taken)) (c .before .before .put .ensures)
-
-slice-aggregate-put-2 : tie.Need-slice-aggregate-put-2
-slice-aggregate-put-2 c = search needs
-
-put-requires-2 : tie.Need-put-requires-2
-put-requires-2 c κs = search needs
-
-same-length-2 : tie.Need-same-length-2
-same-length-2 c = search needs
 
 returns-2 : tie.Need-returns-2
 unfolding how counted bytes bytes-from
 returns-2 c = rw (ne-eqb (c .before .before .before .before .before .before .before .before .args .ending) 0 (c .before .before .before .before .before .before .if1 .left), eq-eqb (c .before .before .before .before .before .before .before .before .args .ending) 1 (c .before .before .before .before .before .if2 .taken)) (c .before .before .put2 .ensures)
 
-slice-aggregate-around : tie.Need-slice-aggregate-around
-slice-aggregate-around c = search needs
-
-cast-around : tie.Need-cast-around
-cast-around c = search needs
-
-slice-aggregate-around-2 : tie.Need-slice-aggregate-around-2
-slice-aggregate-around-2 c = search needs
-
-around-requires : tie.Need-around-requires
-around-requires c κs = search needs
-
-same-length-3 : tie.Need-same-length-3
-same-length-3 c = search needs
-
 returns-3 : tie.Need-returns-3
 unfolding how counted bytes bytes-from
 returns-3 c = rw (ne-eqb (c .before .before .before .before .before .before .before .before .before .before .before .args .ending) 0 (c .before .before .before .before .before .before .before .before .before .if1 .left), ne-eqb (c .before .before .before .before .before .before .before .before .before .before .before .args .ending) 1 (c .before .before .before .before .before .before .before .before .if2 .left), eq-eqb (c .before .before .before .before .before .before .before .before .before .before .before .args .ending) 2 (c .before .before .before .before .before .before .before .if3 .taken)) (c .before .before .around .ensures)
-
-slice-aggregate-put-3 : tie.Need-slice-aggregate-put-3
-slice-aggregate-put-3 c = search needs
-
-put-requires-3 : tie.Need-put-requires-3
-put-requires-3 c κs = search needs
-
-same-length-4 : tie.Need-same-length-4
-same-length-4 c = search needs
 
 returns-4 : tie.Need-returns-4
 unfolding how counted bytes bytes-from
 returns-4 c = rw (ne-eqb (c .before .before .before .before .before .before .before .before .before .before .args .ending) 0 (c .before .before .before .before .before .before .before .before .if1 .left), ne-eqb (c .before .before .before .before .before .before .before .before .before .before .args .ending) 1 (c .before .before .before .before .before .before .before .if2 .left), ne-eqb (c .before .before .before .before .before .before .before .before .before .before .args .ending) 2 (c .before .before .before .before .before .before .if3 .left), eq-eqb (c .before .before .before .before .before .before .before .before .before .before .args .ending) 3 (c .before .before .before .before .before .if4 .taken)) (c .before .before .put3 .ensures)
 
-slice-aggregate-put-4 : tie.Need-slice-aggregate-put-4
-slice-aggregate-put-4 c = search needs
-
-put-requires-4 : tie.Need-put-requires-4
-put-requires-4 c κs = search needs
-
-same-length-5 : tie.Need-same-length-5
-same-length-5 c = search needs
-
 returns-5 : tie.Need-returns-5
 unfolding how counted bytes bytes-from
 returns-5 c = rw (ne-eqb (c .before .before .before .before .before .before .before .before .before .before .before .args .ending) 0 (c .before .before .before .before .before .before .before .before .before .if1 .left), ne-eqb (c .before .before .before .before .before .before .before .before .before .before .before .args .ending) 1 (c .before .before .before .before .before .before .before .before .if2 .left), ne-eqb (c .before .before .before .before .before .before .before .before .before .before .before .args .ending) 2 (c .before .before .before .before .before .before .before .if3 .left), ne-eqb (c .before .before .before .before .before .before .before .before .before .before .before .args .ending) 3 (c .before .before .before .before .before .before .if4 .left), eq-eqb (c .before .before .before .before .before .before .before .before .before .before .before .args .ending) 4 (c .before .before .before .before .before .if5 .taken)) (c .before .before .put4 .ensures)
-
-put-how-later-requires : tie.Need-put-how-later-requires
-put-how-later-requires c κs = search needs
-
-same-length-6 : tie.Need-same-length-6
-same-length-6 c = search needs
 
 returns-6 : tie.Need-returns-6
 unfolding how counted bytes bytes-from
@@ -92,28 +35,28 @@ pub put-how-spec : {M : Type 1} → statement M
 put-how-spec =
     tie.close
     (tie.spec
-    slice-aggregate-put
-    put-requires
-    same-length
+    (λ c. search needs)
+    (λ c κs. search needs)
+    (λ c. search needs)
     returns
-    slice-aggregate-put-2
-    put-requires-2
-    same-length-2
+    (λ c. search needs)
+    (λ c κs. search needs)
+    (λ c. search needs)
     returns-2
-    slice-aggregate-around
-    cast-around
-    slice-aggregate-around-2
-    around-requires
-    same-length-3
+    (λ c. search needs)
+    (λ c. search needs)
+    (λ c. search needs)
+    (λ c κs. search needs)
+    (λ c. search needs)
     returns-3
-    slice-aggregate-put-3
-    put-requires-3
-    same-length-4
+    (λ c. search needs)
+    (λ c κs. search needs)
+    (λ c. search needs)
     returns-4
-    slice-aggregate-put-4
-    put-requires-4
-    same-length-5
+    (λ c. search needs)
+    (λ c κs. search needs)
+    (λ c. search needs)
     returns-5
-    put-how-later-requires
-    same-length-6
+    (λ c κs. search needs)
+    (λ c. search needs)
     returns-6)

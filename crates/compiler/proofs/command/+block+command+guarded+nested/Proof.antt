@@ -106,23 +106,8 @@ block-Inv-loop allow text names₀ table₀ w done₀ need₀ names table done n
 abbrev block-μ-loop : block-lts.MeasureT-loop
 block-μ-loop allow text names₀ table₀ w done₀ need₀ names table done need = length text - done .next .place
 
-block-opened-requires : (t : ℕ) → block-lts.Need-opened-requires (block-calls t) (block-at t) block.Post block-Inv-loop block-μ-loop
-block-opened-requires t c κs = search needs
-
 block-command-requires : (t : ℕ) → block-lts.Need-command-requires (block-calls t) (block-at t) block.Post block-Inv-loop block-μ-loop
 block-command-requires t c κs = (omega (arith, c .before .before .before .before .before .pre .0), rw (c .opened .ensures) (ready-opened (c .before .before .before .before .before .pre .1)))
-
-block-enum-known-first : (t : ℕ) → block-lts.Need-enum-known-first (block-calls t) (block-at t) block.Post block-Inv-loop block-μ-loop
-block-enum-known-first t c = search needs
-
-block-enum-told : (t : ℕ) → block-lts.Need-enum-told (block-calls t) (block-at t) block.Post block-Inv-loop block-μ-loop
-block-enum-told t c = search needs
-
-block-same-length : (t : ℕ) → block-lts.Need-same-length (block-calls t) (block-at t) block.Post block-Inv-loop block-μ-loop
-block-same-length t c = search needs
-
-block-same-length-2 : (t : ℕ) → block-lts.Need-same-length-2 (block-calls t) (block-at t) block.Post block-Inv-loop block-μ-loop
-block-same-length-2 t c = search needs
 
 block-returns : (t : ℕ) → block-lts.Need-returns (block-calls t) (block-at t) block.Post block-Inv-loop block-μ-loop
 unfolding Reads opened-walk in-scope
@@ -135,21 +120,9 @@ block-loop-holds t c = record { count-names = refl; count-table = refl; on = λ 
 block-read : (t : ℕ) (c : block-lts.At-loop (block-calls t) (block-at t) block.Post block-Inv-loop block-μ-loop) → let a = c .before .before .before .before .before .before .before .before .before .before .before .before .before .args in Got block-so-far (now (a .text)) (now (a .names)) (now (a .table)) (opened-walk (a .w)) (suc (a .allow)) (c .loop .names) (c .loop .table) (c .loop .done) (record { need = c .loop .need })
 block-read t c = c .loop .inv .on _ _ (so-far-one (got command-way (c .before .before .first .given .1) (rw (c .before .before .before .before .before .before .before .before .opened .ensures) at (c .before .before .before .before .before .before .before .command .ensures))))
 
-block-fixed-ahead-requires : (t : ℕ) → block-lts.Need-fixed-ahead-requires (block-calls t) (block-at t) block.Post block-Inv-loop block-μ-loop
-block-fixed-ahead-requires t c κs = search needs
-
-block-closed-requires : (t : ℕ) → block-lts.Need-closed-requires (block-calls t) (block-at t) block.Post block-Inv-loop block-μ-loop
-block-closed-requires t c κs = search needs
-
 block-advance-requires : (t : ℕ) → block-lts.Need-advance-requires (block-calls t) (block-at t) block.Post block-Inv-loop block-μ-loop
 unfolding closed-walk in-scope
 block-advance-requires t c κs = rw (c .closed .ensures) (block-read t (c .before .before .before) .passed .stands .within)
-
-block-same-length-3 : (t : ℕ) → block-lts.Need-same-length-3 (block-calls t) (block-at t) block.Post block-Inv-loop block-μ-loop
-block-same-length-3 t c = search needs
-
-block-same-length-4 : (t : ℕ) → block-lts.Need-same-length-4 (block-calls t) (block-at t) block.Post block-Inv-loop block-μ-loop
-block-same-length-4 t c = search needs
 
 block-returns-2 : (t : ℕ) → block-lts.Need-returns-2 (block-calls t) (block-at t) block.Post block-Inv-loop block-μ-loop
 unfolding code-of
@@ -158,18 +131,6 @@ block-returns-2 t c = so-far-closed (c .before .before .before .before .before .
 block-command-requires-2 : (t : ℕ) → block-lts.Need-command-requires-2 (block-calls t) (block-at t) block.Post block-Inv-loop block-μ-loop
 block-command-requires-2 t c κs = (omega (arith, c .before .before .before .before .before .before .before .before .before .before .before .before .before .before .before .before .before .pre .0), ready-got (ready-opened (c .before .before .before .before .before .before .before .before .before .before .before .before .before .before .before .before .before .pre .1)) (block-read t (c .before .before .before .before)))
 
-block-enum-known-r : (t : ℕ) → block-lts.Need-enum-known-r (block-calls t) (block-at t) block.Post block-Inv-loop block-μ-loop
-block-enum-known-r t c = search needs
-
-block-enum-told-2 : (t : ℕ) → block-lts.Need-enum-told-2 (block-calls t) (block-at t) block.Post block-Inv-loop block-μ-loop
-block-enum-told-2 t c = search needs
-
-block-same-length-5 : (t : ℕ) → block-lts.Need-same-length-5 (block-calls t) (block-at t) block.Post block-Inv-loop block-μ-loop
-block-same-length-5 t c = search needs
-
-block-same-length-6 : (t : ℕ) → block-lts.Need-same-length-6 (block-calls t) (block-at t) block.Post block-Inv-loop block-μ-loop
-block-same-length-6 t c = search needs
-
 block-returns-3 : (t : ℕ) → block-lts.Need-returns-3 (block-calls t) (block-at t) block.Post block-Inv-loop block-μ-loop
 unfolding Reads opened-walk in-scope code-of
 block-returns-3 t c = rw (c .enum-told2 .given .1) (block-more _ _ (block-read t (c .before .before .before .before .before .before .before .before .before .before) .passed) (λ h. c .before .before .before .before .before .before .before .before .if1 .left (c .before .before .before .before .before .before .before .before .before .fixed-ahead .ensures ∙ h)) .refuses _ _ (rw (c .enum-told2 .given .1) at (c .before .before .before .before .before .command2 .ensures)))
@@ -177,9 +138,6 @@ block-returns-3 t c = rw (c .enum-told2 .given .1) (block-more _ _ (block-read t
 -- one command more
 block-next : (t : ℕ) (c : block-lts.After-r (block-calls t) (block-at t) block.Post block-Inv-loop block-μ-loop) → let a = c .before .before .before .before .before .before .before .before .before .before .before .before .before .before .before .before .before .before .before .before .before .before .before .args in Got command-way (now (a .text)) (c .before .before .before .before .before .before .before .before .before .before .loop .names) (c .before .before .before .before .before .before .before .before .before .before .loop .table) (c .before .before .before .before .before .before .before .before .before .before .loop .done) (a .allow) (c .before .before .before .before .before .command2 .last .1 .1 .0) (c .before .before .before .before .before .command2 .last .1 .1 .1 .0) (c .r .given .0 .0) (c .r .given .0 .1 .0)
 block-next t c = got command-way (c .r .given .1) (c .before .before .before .before .before .command2 .ensures)
-
-block-larger-requires : (t : ℕ) → block-lts.Need-larger-requires (block-calls t) (block-at t) block.Post block-Inv-loop block-μ-loop
-block-larger-requires t c κs = search needs
 
 block-loop-less : (t : ℕ) → block-lts.Need-loop-less (block-calls t) (block-at t) block.Post block-Inv-loop block-μ-loop
 block-loop-less t c = let g = block-next t (c .before .before) in omega (arith, g .passed .later, g .passed .stands .order, g .passed .stands .within)
@@ -195,12 +153,6 @@ block-loop-again t c = record {
 command-advance-requires : (t : ℕ) → command-lts.Need-advance-requires (command-calls t) (command-at t) command.Post
 command-advance-requires t c κs = c .before .before .before .pre .1 .stands .within
 
-command-enum-known-a : (t : ℕ) → command-lts.Need-enum-known-a (command-calls t) (command-at t) command.Post
-command-enum-known-a t c = search needs
-
-command-enum-told : (t : ℕ) → command-lts.Need-enum-told (command-calls t) (command-at t) command.Post
-command-enum-told t c = search needs
-
 command-returns : (t : ℕ) → command-lts.Need-returns (command-calls t) (command-at t) command.Post
 unfolding Reads
 command-returns t c = rw (c .enum-told .given .1) (lost-ahead command-way _ (c .before .before .before .before .before .before .pre .1 .stands) (unread _ _ _ (c .before .before .advance .ensures) (c .enum-told .given .1)))
@@ -209,23 +161,11 @@ command-returns t c = rw (c .enum-told .given .1) (lost-ahead command-way _ (c .
 command-first : (t : ℕ) (c : command-lts.After-a (command-calls t) (command-at t) command.Post) → let a = c .before .before .before .before .before .before .args in First (now (a .text)) (now (a .names)) (a .w) (a .allow) (c .a .given .0 .0)
 command-first t c = record { ready = c .before .before .before .before .before .before .pre .1; past = past _ _ _ (c .before .before .advance .ensures) (c .a .given .1) }
 
-command-enum-told-2 : (t : ℕ) → command-lts.Need-enum-told-2 (command-calls t) (command-at t) command.Post
-command-enum-told-2 t c = search needs
-
 command-assign-requires : (t : ℕ) → command-lts.Need-assign-requires (command-calls t) (command-at t) command.Post
 command-assign-requires t c κs = ready-first (command-first t (c .before .before .before .before .before)) (le-refl _)
 
-command-same-length : (t : ℕ) → command-lts.Need-same-length (command-calls t) (command-at t) command.Post
-command-same-length t c = search needs
-
-command-same-length-2 : (t : ℕ) → command-lts.Need-same-length-2 (command-calls t) (command-at t) command.Post
-command-same-length-2 t c = search needs
-
 command-returns-2 : (t : ℕ) → command-lts.Need-returns-2 (command-calls t) (command-at t) command.Post
 command-returns-2 t c = reads-begun (command-first t (c .before .before .before .before .before .before .before)) (begins-assign _ (c .before .before .before .before .enum-told2 .given .1)) _ _ _ _ (omega arith) refl (c .before .assign .ensures)
-
-command-fixed-of-requires : (t : ℕ) → command-lts.Need-fixed-of-requires (command-calls t) (command-at t) command.Post
-command-fixed-of-requires t c κs = search needs
 
 command-emitted-requires : (t : ℕ) → command-lts.Need-emitted-requires (command-calls t) (command-at t) command.Post
 command-emitted-requires t c κs = code-fits (ready-first (command-first t (c .before .before .before .before .before)) (le-refl _))
@@ -255,68 +195,29 @@ command-sub-nested t c = omega (arith, c .if1 .left)
 command-nested-requires : (t : ℕ) → command-lts.Need-nested-requires (command-calls t) (command-at t) command.Post
 command-nested-requires t c κs = (omega (arith, c .before .before .before .before .before .before .before .before .before .before .before .before .before .pre .0, c .before .before .if1 .left), ready-first (command-first t (c .before .before .before .before .before .before .before)) (omega (arith, c .before .before .if1 .left)))
 
-command-same-length-3 : (t : ℕ) → command-lts.Need-same-length-3 (command-calls t) (command-at t) command.Post
-command-same-length-3 t c = search needs
-
 command-returns-4 : (t : ℕ) → command-lts.Need-returns-4 (command-calls t) (command-at t) command.Post
 unfolding code-of
 command-returns-4 t c = rw (c .before .emitted .ensures .0, c .before .emitted .ensures .1) (done command-way refl (error-done (command-first t (c .before .before .before .before .before .before .before)) (sym (c .before .before .before .before .fixed-of .ensures) ∙ c .before .before .before .match3 .keys1)))
-
-command-same-length-4 : (t : ℕ) → command-lts.Need-same-length-4 (command-calls t) (command-at t) command.Post
-command-same-length-4 t c = search needs
-
-command-same-length-5 : (t : ℕ) → command-lts.Need-same-length-5 (command-calls t) (command-at t) command.Post
-command-same-length-5 t c = search needs
 
 command-returns-5 : (t : ℕ) → command-lts.Need-returns-5 (command-calls t) (command-at t) command.Post
 unfolding code-of
 command-returns-5 t c = reads-begun (command-first t (c .before .before .before .before .before .before .before .before .before .before)) (begins-declare _ (sym (c .before .before .before .before .before .before .before .fixed-of .ensures) ∙ c .before .before .before .before .before .before .match3 .keys2)) _ _ _ _ (omega arith) refl (c .before .before .before .declare .ensures)
 
-command-same-length-6 : (t : ℕ) → command-lts.Need-same-length-6 (command-calls t) (command-at t) command.Post
-command-same-length-6 t c = search needs
-
-command-same-length-7 : (t : ℕ) → command-lts.Need-same-length-7 (command-calls t) (command-at t) command.Post
-command-same-length-7 t c = search needs
-
 command-returns-6 : (t : ℕ) → command-lts.Need-returns-6 (command-calls t) (command-at t) command.Post
 unfolding code-of
 command-returns-6 t c = reads-begun (command-first t (c .before .before .before .before .before .before .before .before)) (begins-print _ (sym (c .before .before .before .before .before .fixed-of .ensures) ∙ c .before .before .before .before .match3 .keys3)) _ _ _ _ (omega arith) refl (c .before .print-int .ensures)
-
-command-same-length-8 : (t : ℕ) → command-lts.Need-same-length-8 (command-calls t) (command-at t) command.Post
-command-same-length-8 t c = search needs
-
-command-same-length-9 : (t : ℕ) → command-lts.Need-same-length-9 (command-calls t) (command-at t) command.Post
-command-same-length-9 t c = search needs
 
 command-returns-7 : (t : ℕ) → command-lts.Need-returns-7 (command-calls t) (command-at t) command.Post
 unfolding code-of
 command-returns-7 t c = reads-begun (command-first t (c .before .before .before .before .before .before .before .before)) (begins-line _ (sym (c .before .before .before .before .before .fixed-of .ensures) ∙ c .before .before .before .before .match3 .keys4)) _ _ _ _ (omega arith) refl (c .before .print-string .ensures)
 
-command-same-length-10 : (t : ℕ) → command-lts.Need-same-length-10 (command-calls t) (command-at t) command.Post
-command-same-length-10 t c = search needs
-
-command-same-length-11 : (t : ℕ) → command-lts.Need-same-length-11 (command-calls t) (command-at t) command.Post
-command-same-length-11 t c = search needs
-
 command-returns-8 : (t : ℕ) → command-lts.Need-returns-8 (command-calls t) (command-at t) command.Post
 unfolding code-of
 command-returns-8 t c = reads-begun (command-first t (c .before .before .before .before .before .before .before .before)) (begins-string _ (sym (c .before .before .before .before .before .fixed-of .ensures) ∙ c .before .before .before .before .match3 .keys5)) _ _ _ _ (omega arith) refl (c .before .print-string2 .ensures)
 
-command-same-length-12 : (t : ℕ) → command-lts.Need-same-length-12 (command-calls t) (command-at t) command.Post
-command-same-length-12 t c = search needs
-
-command-same-length-13 : (t : ℕ) → command-lts.Need-same-length-13 (command-calls t) (command-at t) command.Post
-command-same-length-13 t c = search needs
-
 command-returns-9 : (t : ℕ) → command-lts.Need-returns-9 (command-calls t) (command-at t) command.Post
 unfolding code-of
 command-returns-9 t c = reads-begun (command-first t (c .before .before .before .before .before .before .before .before)) (begins-read _ (sym (c .before .before .before .before .before .fixed-of .ensures) ∙ c .before .before .before .before .match3 .keys6)) _ _ _ _ (omega arith) refl (c .before .read .ensures)
-
-command-same-length-14 : (t : ℕ) → command-lts.Need-same-length-14 (command-calls t) (command-at t) command.Post
-command-same-length-14 t c = search needs
-
-command-same-length-15 : (t : ℕ) → command-lts.Need-same-length-15 (command-calls t) (command-at t) command.Post
-command-same-length-15 t c = search needs
 
 command-returns-10 : (t : ℕ) → command-lts.Need-returns-10 (command-calls t) (command-at t) command.Post
 command-returns-10 t c = reads-begun (command-first t (c .before .before .before .before .before .before .before .before .before .before .before)) (begins-nested _ (rw (c .before .before .before .before .before .before .before .before .fixed-of .ensures) at (c .before .before .before .before .before .before .before .match3 .keys7))) _ _ _ _ (omega (arith, c .before .before .before .before .before .before .if1 .left)) (omega (arith, c .before .before .before .before .before .before .if1 .left)) (rw (c .before .before .before .before .before .before .before .before .fixed-of .ensures) at (c .before .before .before .nested .ensures))
@@ -332,18 +233,6 @@ command-returns-11 t c =
 guarded-condition-requires : (t : ℕ) → guarded-lts.Need-condition-requires (guarded-calls t) (guarded-at t) guarded.Post
 guarded-condition-requires t c κs = ready-inside (c .before .before .before .before .pre .1)
 
-guarded-enum-known-r : (t : ℕ) → guarded-lts.Need-enum-known-r (guarded-calls t) (guarded-at t) guarded.Post
-guarded-enum-known-r t c = search needs
-
-guarded-enum-told : (t : ℕ) → guarded-lts.Need-enum-told (guarded-calls t) (guarded-at t) guarded.Post
-guarded-enum-told t c = search needs
-
-guarded-same-length : (t : ℕ) → guarded-lts.Need-same-length (guarded-calls t) (guarded-at t) guarded.Post
-guarded-same-length t c = search needs
-
-guarded-same-length-2 : (t : ℕ) → guarded-lts.Need-same-length-2 (guarded-calls t) (guarded-at t) guarded.Post
-guarded-same-length-2 t c = search needs
-
 guarded-returns : (t : ℕ) → guarded-lts.Need-returns (guarded-calls t) (guarded-at t) guarded.Post
 unfolding Reads
 guarded-returns t c = rw (c .enum-told .given .1) (guarded-refused _ _ _ _ _ _ (rw (c .enum-told .given .1) at (c .before .before .before .condition .ensures)))
@@ -352,26 +241,11 @@ guarded-returns t c = rw (c .enum-told .given .1) (guarded-refused _ _ _ _ _ _ (
 guarded-test : (t : ℕ) (c : guarded-lts.After-r (guarded-calls t) (guarded-at t) guarded.Post) → let a = c .before .before .before .before .before .before .before .before .args in Got condition-way (now (a .text)) (now (a .names)) (now (a .table)) (a .w) (a .allow) (now (a .names)) (c .before .before .before .condition .last .1 .1 .1 .0) (c .r .given .0 .0) (c .r .given .0 .1 .0)
 guarded-test t c = got condition-way (c .r .given .1) (c .before .before .before .condition .ensures)
 
-guarded-before-body-requires : (t : ℕ) → guarded-lts.Need-before-body-requires (guarded-calls t) (guarded-at t) guarded.Post
-guarded-before-body-requires t c κs = search needs
-
 guarded-expect-requires : (t : ℕ) → guarded-lts.Need-expect-requires (guarded-calls t) (guarded-at t) guarded.Post
 guarded-expect-requires t c κs = guarded-test t (c .before .before) .passed .stands .within
 
 guarded-expects : (t : ℕ) (c : guarded-lts.After-expect (guarded-calls t) (guarded-at t) guarded.Post) → let a = c .before .before .before .before .before .before .before .before .before .before .before .args in Expects (now (a .text)) (c .before .before .before .r .given .0 .0) (code-of (before-body (a .again))) 0 (c .expect .result)
 guarded-expects t c = rw (c .before .before-body .ensures) at (c .expect .ensures)
-
-guarded-enum-known-s : (t : ℕ) → guarded-lts.Need-enum-known-s (guarded-calls t) (guarded-at t) guarded.Post
-guarded-enum-known-s t c = search needs
-
-guarded-enum-told-2 : (t : ℕ) → guarded-lts.Need-enum-told-2 (guarded-calls t) (guarded-at t) guarded.Post
-guarded-enum-told-2 t c = search needs
-
-guarded-same-length-3 : (t : ℕ) → guarded-lts.Need-same-length-3 (guarded-calls t) (guarded-at t) guarded.Post
-guarded-same-length-3 t c = search needs
-
-guarded-same-length-4 : (t : ℕ) → guarded-lts.Need-same-length-4 (guarded-calls t) (guarded-at t) guarded.Post
-guarded-same-length-4 t c = search needs
 
 guarded-returns-2 : (t : ℕ) → guarded-lts.Need-returns-2 (guarded-calls t) (guarded-at t) guarded.Post
 unfolding Reads
@@ -388,15 +262,6 @@ guarded-skipped-requires t c κs = head-small (guarded-head t (c .before .before
 
 guarded-command-requires : (t : ℕ) → guarded-lts.Need-command-requires (guarded-calls t) (guarded-at t) guarded.Post
 guarded-command-requires t c κs = (omega (arith, c .before .before .before .before .before .before .before .before .before .before .before .before .before .before .before .before .before .pre .0), rw (c .skipped .ensures) (ready-headed (guarded-head t (c .before .before .before .before))))
-
-guarded-enum-known-t : (t : ℕ) → guarded-lts.Need-enum-known-t (guarded-calls t) (guarded-at t) guarded.Post
-guarded-enum-known-t t c = search needs
-
-guarded-enum-told-3 : (t : ℕ) → guarded-lts.Need-enum-told-3 (guarded-calls t) (guarded-at t) guarded.Post
-guarded-enum-told-3 t c = search needs
-
-guarded-same-length-5 : (t : ℕ) → guarded-lts.Need-same-length-5 (guarded-calls t) (guarded-at t) guarded.Post
-guarded-same-length-5 t c = search needs
 
 guarded-same-length-6 : (t : ℕ) → guarded-lts.Need-same-length-6 (guarded-calls t) (guarded-at t) guarded.Post
 guarded-same-length-6 t c = c .before .before .before .before .before .command .kept .1 .1 .1 .0 ∙ c .before .before .before .before .before .before .before .before .before .before .before .before .before .before .before .before .before .before .condition .kept .1 .1 .1 .0
@@ -415,15 +280,6 @@ guarded-ended-requires t c κs = (body-small (guarded-body t (c .before .before)
 guarded-cast-put : (t : ℕ) → guarded-lts.Need-cast-put (guarded-calls t) (guarded-at t) guarded.Post
 guarded-cast-put t c = count-fits (rw (c .before .before .before .ended .ensures .0) (end-small (guarded-body t (c .before .before .before .before .before .before))))
 
-guarded-put-requires : (t : ℕ) → guarded-lts.Need-put-requires (guarded-calls t) (guarded-at t) guarded.Post
-guarded-put-requires t c κs = search needs
-
-guarded-larger-requires : (t : ℕ) → guarded-lts.Need-larger-requires (guarded-calls t) (guarded-at t) guarded.Post
-guarded-larger-requires t c κs = search needs
-
-guarded-same-length-7 : (t : ℕ) → guarded-lts.Need-same-length-7 (guarded-calls t) (guarded-at t) guarded.Post
-guarded-same-length-7 t c = search needs
-
 guarded-same-length-8 : (t : ℕ) → guarded-lts.Need-same-length-8 (guarded-calls t) (guarded-at t) guarded.Post
 guarded-same-length-8 t c = c .before .before .put .kept .0 ∙ c .before .before .before .before .before .before .ended .kept .0 ∙ c .before .before .before .before .before .before .before .before .before .before .before .before .before .before .command .kept .1 .1 .1 .0 ∙ c .before .before .before .before .before .before .before .before .before .before .before .before .before .before .before .before .before .before .before .before .before .before .before .before .before .before .before .condition .kept .1 .1 .1 .0
 
@@ -435,24 +291,12 @@ guarded-returns-4 t c =
 nested-block-requires : (t : ℕ) → nested-lts.Need-block-requires (nested-calls t) (nested-at t) nested.Post
 nested-block-requires t c κs = (omega (arith, c .before .before .before .before .before .pre .0), c .before .before .before .before .before .pre .1)
 
-nested-same-length : (t : ℕ) → nested-lts.Need-same-length (nested-calls t) (nested-at t) nested.Post
-nested-same-length t c = search needs
-
-nested-same-length-2 : (t : ℕ) → nested-lts.Need-same-length-2 (nested-calls t) (nested-at t) nested.Post
-nested-same-length-2 t c = search needs
-
 nested-returns : (t : ℕ) → nested-lts.Need-returns (nested-calls t) (nested-at t) nested.Post
 unfolding want-nested
 nested-returns t c = rw (c .before .before .before .before .before .before .if1 .taken) (c .before .before .before .block .ensures)
 
 nested-guarded-requires : (t : ℕ) → nested-lts.Need-guarded-requires (nested-calls t) (nested-at t) nested.Post
 nested-guarded-requires t c κs = (omega (arith, c .before .before .before .before .before .pre .0), c .before .before .before .before .before .pre .1)
-
-nested-same-length-3 : (t : ℕ) → nested-lts.Need-same-length-3 (nested-calls t) (nested-at t) nested.Post
-nested-same-length-3 t c = search needs
-
-nested-same-length-4 : (t : ℕ) → nested-lts.Need-same-length-4 (nested-calls t) (nested-at t) nested.Post
-nested-same-length-4 t c = search needs
 
 nested-returns-2 : (t : ℕ) → nested-lts.Need-returns-2 (nested-calls t) (nested-at t) nested.Post
 unfolding want-nested
@@ -465,42 +309,42 @@ pub +block+command+guarded+nested-spec : {M : Type 1} → statement M
     block.Post
     block-Inv-loop
     block-μ-loop
-    (block-opened-requires t)
+    (λ c κs. search needs)
     (block-command-requires t)
-    (block-enum-known-first t)
-    (block-enum-told t)
-    (block-same-length t)
-    (block-same-length-2 t)
+    (λ c. search needs)
+    (λ c. search needs)
+    (λ c. search needs)
+    (λ c. search needs)
     (block-returns t)
     (block-loop-holds t)
-    (block-fixed-ahead-requires t)
-    (block-closed-requires t)
+    (λ c κs. search needs)
+    (λ c κs. search needs)
     (block-advance-requires t)
-    (block-same-length-3 t)
-    (block-same-length-4 t)
+    (λ c. search needs)
+    (λ c. search needs)
     (block-returns-2 t)
     (block-command-requires-2 t)
-    (block-enum-known-r t)
-    (block-enum-told-2 t)
-    (block-same-length-5 t)
-    (block-same-length-6 t)
+    (λ c. search needs)
+    (λ c. search needs)
+    (λ c. search needs)
+    (λ c. search needs)
     (block-returns-3 t)
-    (block-larger-requires t)
+    (λ c κs. search needs)
     (block-loop-less t)
     (block-loop-again t))
     (λ t. command-lts.spec (command-calls t)
     (command-at t)
     command.Post
     (command-advance-requires t)
-    (command-enum-known-a t)
-    (command-enum-told t)
+    (λ c. search needs)
+    (λ c. search needs)
     (command-returns t)
-    (command-enum-told-2 t)
+    (λ c. search needs)
     (command-assign-requires t)
-    (command-same-length t)
-    (command-same-length-2 t)
+    (λ c. search needs)
+    (λ c. search needs)
     (command-returns-2 t)
-    (command-fixed-of-requires t)
+    (λ c κs. search needs)
     (command-emitted-requires t)
     (command-declare-requires t)
     (command-print-int-requires t)
@@ -510,65 +354,65 @@ pub +block+command+guarded+nested-spec : {M : Type 1} → statement M
     (command-returns-3 t)
     (command-sub-nested t)
     (command-nested-requires t)
-    (command-same-length-3 t)
+    (λ c. search needs)
     (command-returns-4 t)
-    (command-same-length-4 t)
-    (command-same-length-5 t)
+    (λ c. search needs)
+    (λ c. search needs)
     (command-returns-5 t)
-    (command-same-length-6 t)
-    (command-same-length-7 t)
+    (λ c. search needs)
+    (λ c. search needs)
     (command-returns-6 t)
-    (command-same-length-8 t)
-    (command-same-length-9 t)
+    (λ c. search needs)
+    (λ c. search needs)
     (command-returns-7 t)
-    (command-same-length-10 t)
-    (command-same-length-11 t)
+    (λ c. search needs)
+    (λ c. search needs)
     (command-returns-8 t)
-    (command-same-length-12 t)
-    (command-same-length-13 t)
+    (λ c. search needs)
+    (λ c. search needs)
     (command-returns-9 t)
-    (command-same-length-14 t)
-    (command-same-length-15 t)
+    (λ c. search needs)
+    (λ c. search needs)
     (command-returns-10 t)
     (command-returns-11 t))
     (λ t. guarded-lts.spec (guarded-calls t)
     (guarded-at t)
     guarded.Post
     (guarded-condition-requires t)
-    (guarded-enum-known-r t)
-    (guarded-enum-told t)
-    (guarded-same-length t)
-    (guarded-same-length-2 t)
+    (λ c. search needs)
+    (λ c. search needs)
+    (λ c. search needs)
+    (λ c. search needs)
     (guarded-returns t)
-    (guarded-before-body-requires t)
+    (λ c κs. search needs)
     (guarded-expect-requires t)
-    (guarded-enum-known-s t)
-    (guarded-enum-told-2 t)
-    (guarded-same-length-3 t)
-    (guarded-same-length-4 t)
+    (λ c. search needs)
+    (λ c. search needs)
+    (λ c. search needs)
+    (λ c. search needs)
     (guarded-returns-2 t)
     (guarded-skipped-requires t)
     (guarded-command-requires t)
-    (guarded-enum-known-t t)
-    (guarded-enum-told-3 t)
-    (guarded-same-length-5 t)
+    (λ c. search needs)
+    (λ c. search needs)
+    (λ c. search needs)
     (guarded-same-length-6 t)
     (guarded-returns-3 t)
     (guarded-ended-requires t)
     (guarded-cast-put t)
-    (guarded-put-requires t)
-    (guarded-larger-requires t)
-    (guarded-same-length-7 t)
+    (λ c κs. search needs)
+    (λ c κs. search needs)
+    (λ c. search needs)
     (guarded-same-length-8 t)
     (guarded-returns-4 t))
     λ t. nested-lts.spec (nested-calls t)
     (nested-at t)
     nested.Post
     (nested-block-requires t)
-    (nested-same-length t)
-    (nested-same-length-2 t)
+    (λ c. search needs)
+    (λ c. search needs)
     (nested-returns t)
     (nested-guarded-requires t)
-    (nested-same-length-3 t)
-    (nested-same-length-4 t)
+    (λ c. search needs)
+    (λ c. search needs)
     (nested-returns-2 t)

@@ -14,20 +14,8 @@ use Rattle.compiler.proofs.Replies.{Got, got, done, counts-got}
 use Rattle.compiler.proofs.command.assign.Statement.{statement}
 use Rattle.compiler.proofs.command.assign.Tie as tie
 
-look-up-requires : tie.Need-look-up-requires
-look-up-requires c κs = search needs
-
-noted-requires : tie.Need-noted-requires
-noted-requires c κs = search needs
-
 expect-requires : tie.Need-expect-requires
 expect-requires c κs = rw (c .noted .ensures, c .before .look-up .ensures) (ready-named (c .before .before .before .before .pre) (c .before .before .before .before .args .l) .stands .within)
-
-enum-known-a : tie.Need-enum-known-a
-enum-known-a c = search needs
-
-enum-told : tie.Need-enum-told
-enum-told c = search needs
 
 -- `:=` is expected after the name was looked up
 expects : (c : tie.After-expect) → let a = c .before .before .before .before .before .args in Expects (now (a .text)) (named-walk (c .before .before .before .before .before .pre) (a .l)) (code-of becomes) 0 (c .expect .result)
@@ -43,15 +31,6 @@ becomes-met c = crossed _ _ _ _ (c .a .given .1) (expects (c .before .before))
 expression-requires : tie.Need-expression-requires
 expression-requires c κs = ready-value (c .before .before .before .before .before .before .before .before .before .pre) (c .before .before .before .before .before .before .before .before .before .args .l) (becomes-met (c .before .before))
 
-enum-known-r : tie.Need-enum-known-r
-enum-known-r c = search needs
-
-enum-told-2 : tie.Need-enum-told-2
-enum-told-2 c = search needs
-
-same-length : tie.Need-same-length
-same-length c = search needs
-
 returns-2 : tie.Need-returns-2
 unfolding Reads
 returns-2 c = rw (c .enum-told2 .given .1) (value-leads (c .before .before .before .before .before .before .before .before .before .before .before .before .before .pre) (c .before .before .before .before .before .before .before .before .before .before .before .before .before .args .l) (becomes-met (c .before .before .before .before .before .before)) .refuses _ _ (rw (c .enum-told2 .given .1) at (c .before .before .before .expression .ensures)))
@@ -60,14 +39,8 @@ returns-2 c = rw (c .enum-told2 .given .1) (value-leads (c .before .before .befo
 value : (c : tie.After-r) → let a = c .before .before .before .before .before .before .before .before .before .before .before .before .before .args in Got expression-way (now (a .text)) (now (a .names)) (now (a .table)) (c .before .before .before .before .before .before .a .given .0 .0) (a .allow) (now (a .names)) (c .before .before .before .expression .last .1 .1 .1 .0) (c .r .given .0 .0) (c .r .given .0 .1 .0)
 value c = got expression-way (c .r .given .1) (c .before .before .before .expression .ensures)
 
-operand-requires : tie.Need-operand-requires
-operand-requires c κs = search needs
-
 emitted-requires : tie.Need-emitted-requires
 emitted-requires c κs = counts-got (ready-value (c .before .before .before .before .before .before .before .before .before .before .before .before .before .before .before .before .pre) (c .before .before .before .before .before .before .before .before .before .before .before .before .before .before .before .before .args .l) (becomes-met (c .before .before .before .before .before .before .before .before .before))) (value (c .before .before .before)) .0
-
-same-length-2 : tie.Need-same-length-2
-same-length-2 c = search needs
 
 returns-3 : tie.Need-returns-3
 returns-3 c = rw (c .before .emitted .ensures .0, c .before .emitted .ensures .1, toZ-ofZ (record { sfits = c .before .before .operand .ok }), c .before .before .operand .ensures, c .before .before .before .before .before .before .before .before .before .before .before .before .before .before .before .look-up .ensures) (done (assign-way _) refl (assigned (c .before .before .before .before .before .before .before .before .before .before .before .before .before .before .before .before .before .before .pre) (c .before .before .before .before .before .before .before .before .before .before .before .before .before .before .before .before .before .before .args .l) (becomes-met (c .before .before .before .before .before .before .before .before .before .before .before)) (value (c .before .before .before .before .before))))
@@ -76,18 +49,18 @@ pub assign-spec : {M : Type 1} → statement M
 assign-spec =
     tie.close
     (tie.spec
-    look-up-requires
-    noted-requires
+    (λ c κs. search needs)
+    (λ c κs. search needs)
     expect-requires
-    enum-known-a
-    enum-told
+    (λ c. search needs)
+    (λ c. search needs)
     returns
     expression-requires
-    enum-known-r
-    enum-told-2
-    same-length
+    (λ c. search needs)
+    (λ c. search needs)
+    (λ c. search needs)
     returns-2
-    operand-requires
+    (λ c κs. search needs)
     emitted-requires
-    same-length-2
+    (λ c. search needs)
     returns-3)

@@ -10,15 +10,9 @@ use Rattle.compiler.proofs.Commands.{none-declared}
 use Rattle.compiler.proofs.command.declare.Statement.{statement}
 use Rattle.compiler.proofs.command.declare.Tie as tie
 
-enum-told : tie.Need-enum-told
-enum-told c = search needs
-
 returns : tie.Need-returns
 unfolding Reads
 returns c = none-declared (c .before .before .before .before .pre .stands) _ (not-name (c .match .keys2))
-
-emitted-requires : tie.Need-emitted-requires
-emitted-requires c κs = search needs
 
 cast-emitted : tie.Need-cast-emitted
 cast-emitted c = search needs
@@ -27,21 +21,12 @@ emitted-requires-2 : tie.Need-emitted-requires-2
 unfolding one-more
 emitted-requires-2 c κs = rw (c .before .before .before .emitted .ensures .0) (omega (arith, c .before .before .before .before .before .before .before .before .before .before .before .pre .code, c .before .before .before .before .before .before .before .before .before .before .before .pre .stands .order, c .before .before .before .before .before .before .before .before .before .before .before .pre .stands .within, c .before .before .before .before .before .before .before .before .before .before .before .pre .short))
 
-declared-requires : tie.Need-declared-requires
-declared-requires c κs = search needs
-
 -- the name is declared after two instructions
 given : (c : tie.After-declared) → let a = c .before .before .before .before .before .before .before .before .before .before .before .before .before .before .before .args in Declares-ahead (now (a .names)) (one-more (one-more (a .w))) (c .declared .result) (c .declared .last .0)
 given c = rw (c .before .before .before .emitted2 .ensures .0, c .before .before .before .before .before .before .before .emitted .ensures .0) at (c .declared .ensures)
 
 advance-requires : tie.Need-advance-requires
 advance-requires c κs = rw (given-next _ _ _ _ (given (c .before .before))) (c .before .before .before .before .before .before .before .before .before .before .before .before .before .before .before .before .before .pre .stands .within)
-
-same-length : tie.Need-same-length
-same-length c = search needs
-
-same-length-2 : tie.Need-same-length-2
-same-length-2 c = search needs
 
 returns-2 : tie.Need-returns-2
 unfolding one-more
@@ -51,13 +36,13 @@ pub declare-spec : {M : Type 1} → statement M
 declare-spec =
     tie.close
     (tie.spec
-    enum-told
+    (λ c. search needs)
     returns
-    emitted-requires
+    (λ c κs. search needs)
     cast-emitted
     emitted-requires-2
-    declared-requires
+    (λ c κs. search needs)
     advance-requires
-    same-length
-    same-length-2
+    (λ c. search needs)
+    (λ c. search needs)
     returns-2)

@@ -10,15 +10,6 @@ use borrow.Author.Needs.{needs}
 use Rattle.compiler.proofs.command.ended.Statement.{statement}
 use Rattle.compiler.proofs.command.ended.Tie as tie
 
-cast-emitted : tie.Need-cast-emitted
-cast-emitted c = search needs
-
-emitted-requires : tie.Need-emitted-requires
-emitted-requires c κs = search needs
-
-same-length : tie.Need-same-length
-same-length c = search needs
-
 returns : tie.Need-returns
 unfolding ended-walk ended-table
 returns c = rw (c .before .before .before .if1 .taken) (c .before .emitted .ensures .0, rw (toZ-ofZ {w = w32} {z = pos (c .before .before .before .before .args .back)} (count-fits (omega arith))) at (c .before .emitted .ensures .1))
@@ -28,4 +19,4 @@ unfolding ended-walk ended-table
 returns-2 c = rw (c .if1 .left) (refl, refl)
 
 pub ended-spec : {M : Type 1} → statement M
-ended-spec = tie.close (tie.spec cast-emitted emitted-requires same-length returns returns-2)
+ended-spec = tie.close (tie.spec (λ c. search needs) (λ c κs. search needs) (λ c. search needs) returns returns-2)

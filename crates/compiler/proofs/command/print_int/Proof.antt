@@ -12,18 +12,6 @@ use Rattle.compiler.proofs.Replies.{Got, got, done, counts-got}
 use Rattle.compiler.proofs.command.print_int.Statement.{statement}
 use Rattle.compiler.proofs.command.print_int.Tie as tie
 
-expression-requires : tie.Need-expression-requires
-expression-requires c κs = search needs
-
-enum-known-r : tie.Need-enum-known-r
-enum-known-r c = search needs
-
-enum-told : tie.Need-enum-told
-enum-told c = search needs
-
-same-length : tie.Need-same-length
-same-length c = search needs
-
 returns : tie.Need-returns
 unfolding Reads
 returns c = rw (c .enum-told .given .1) (print-leads _ _ _ .refuses _ _ (rw (c .enum-told .given .1) at (c .before .before .before .expression .ensures)))
@@ -34,9 +22,6 @@ value c = got expression-way (c .r .given .1) (c .before .before .before .expres
 
 emitted-requires : tie.Need-emitted-requires
 emitted-requires c κs = counts-got (c .before .before .before .before .before .before .before .before .before .pre) (value (c .before .before)) .0
-
-same-length-2 : tie.Need-same-length-2
-same-length-2 c = search needs
 
 returns-2 : tie.Need-returns-2
 unfolding one-more
@@ -49,11 +34,11 @@ pub print-int-spec : {M : Type 1} → statement M
 print-int-spec =
     tie.close
     (tie.spec
-    expression-requires
-    enum-known-r
-    enum-told
-    same-length
+    (λ c κs. search needs)
+    (λ c. search needs)
+    (λ c. search needs)
+    (λ c. search needs)
     returns
     emitted-requires
-    same-length-2
+    (λ c. search needs)
     returns-2)

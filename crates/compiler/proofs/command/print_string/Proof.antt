@@ -8,31 +8,16 @@ use Rattle.compiler.proofs.Commands.{no-quoted}
 use Rattle.compiler.proofs.command.print_string.Statement.{statement}
 use Rattle.compiler.proofs.command.print_string.Tie as tie
 
-enum-told : tie.Need-enum-told
-enum-told c = search needs
-
 returns : tie.Need-returns
 unfolding Reads
 returns c = no-quoted (c .before .before .before .before .pre .stands) _ _ (not-string (c .match .keys2))
 
-add-s : tie.Need-add-s
-add-s c = search needs
-
 cast-s : tie.Need-cast-s
 cast-s c = search needs
-
-printing-requires : tie.Need-printing-requires
-printing-requires c κs = search needs
-
-emitted-requires : tie.Need-emitted-requires
-emitted-requires c κs = search needs
 
 advance-requires : tie.Need-advance-requires
 unfolding one-more
 advance-requires c κs = rw (c .before .emitted .ensures .0) (c .before .before .before .before .before .before .before .before .before .before .pre .stands .within)
-
-same-length : tie.Need-same-length
-same-length c = search needs
 
 returns-2 : tie.Need-returns-2
 returns-2 c = rw (c .before .before .emitted .ensures .1, toZ-ofZ (record { sfits = c .before .before .before .printing .ok }), c .before .before .before .printing .ensures, toZ-ofZ (cast-s (c .before .before .before .before .before))) (printed (c .before .before .before .before .before .before .before .before .before .before .before .pre) _ _ (c .before .before .before .before .before .before .enum-told .given .1) _ (rw (c .before .before .emitted .ensures .0) at (c .advance .ensures)))
@@ -41,12 +26,12 @@ pub print-string-spec : {M : Type 1} → statement M
 print-string-spec =
     tie.close
     (tie.spec
-    enum-told
+    (λ c. search needs)
     returns
-    add-s
+    (λ c. search needs)
     cast-s
-    printing-requires
-    emitted-requires
+    (λ c κs. search needs)
+    (λ c κs. search needs)
     advance-requires
-    same-length
+    (λ c. search needs)
     returns-2)

@@ -9,15 +9,9 @@ use Rattle.compiler.proofs.Names.{noted-is}
 use Rattle.compiler.proofs.command.read.Statement.{statement}
 use Rattle.compiler.proofs.command.read.Tie as tie
 
-enum-told : tie.Need-enum-told
-enum-told c = search needs
-
 returns : tie.Need-returns
 unfolding Reads
 returns c = none-read (c .before .before .before .before .pre .stands) _ (not-name (c .match .keys2))
-
-emitted-requires : tie.Need-emitted-requires
-emitted-requires c κs = search needs
 
 used-requires : tie.Need-used-requires
 unfolding one-more
@@ -27,9 +21,6 @@ advance-requires : tie.Need-advance-requires
 unfolding one-more
 advance-requires c κs = rw (c .before .used .ensures .0, c .before .before .before .before .emitted .ensures .0, noted-is _ _ _) (c .before .before .before .before .before .before .before .before .before .before .before .pre .stands .within)
 
-same-length : tie.Need-same-length
-same-length c = search needs
-
 returns-2 : tie.Need-returns-2
 unfolding one-more
 returns-2 c = rw (c .before .before .used .ensures .1, c .before .before .before .before .before .emitted .ensures .0, c .before .before .before .before .before .emitted .ensures .1) (name-stored (c .before .before .before .before .before .before .before .before .before .before .before .before .pre) _ (c .before .before .before .before .before .before .before .enum-told .given .1) _ (rw (c .before .before .used .ensures .0, c .before .before .before .before .before .emitted .ensures .0) at (c .advance .ensures)))
@@ -38,10 +29,10 @@ pub read-spec : {M : Type 1} → statement M
 read-spec =
     tie.close
     (tie.spec
-    enum-told
+    (λ c. search needs)
     returns
-    emitted-requires
+    (λ c κs. search needs)
     used-requires
     advance-requires
-    same-length
+    (λ c. search needs)
     returns-2)

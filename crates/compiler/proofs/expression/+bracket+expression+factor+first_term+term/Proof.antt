@@ -253,12 +253,6 @@ term-calls t = (factor-below t, factor.Post, fixed-ahead-reads.Asked, fixed-ahea
 bracket-advance-requires : (t : ℕ) → bracket-lts.Need-advance-requires (bracket-calls t) (bracket-at t) bracket.Post
 bracket-advance-requires t c κs = c .before .before .pre .1 .0 .stands .within
 
-bracket-enum-known-a : (t : ℕ) → bracket-lts.Need-enum-known-a (bracket-calls t) (bracket-at t) bracket.Post
-bracket-enum-known-a t c = search needs
-
-bracket-enum-told : (t : ℕ) → bracket-lts.Need-enum-told (bracket-calls t) (bracket-at t) bracket.Post
-bracket-enum-told t c = search needs
-
 bracket-returns : (t : ℕ) → bracket-lts.Need-returns (bracket-calls t) (bracket-at t) bracket.Post
 unfolding code-of
 bracket-returns t c = stopped factor-way _ _ _ _ _ _ _ (c .enum-told .given .1) (lost-first factor-way _ _ _ (going (c .before .before .before .before .before .args .w .next) (c .before .before .before .before .before .pre .1 .1) (λ z. omega arith)) (unread _ _ _ (c .before .before .advance .ensures) (c .enum-told .given .1)))
@@ -266,24 +260,12 @@ bracket-returns t c = stopped factor-way _ _ _ _ _ _ _ (c .enum-told .given .1) 
 bracket-expression-requires : (t : ℕ) → bracket-lts.Need-expression-requires (bracket-calls t) (bracket-at t) bracket.Post
 bracket-expression-requires t c κs = (omega arith, ready-past (c .before .before .before .before .before .before .before .pre .1 .0) _ (omega arith) (past _ _ _ (c .before .before .before .before .advance .ensures) (c .before .before .a .given .1)))
 
-bracket-enum-known-r : (t : ℕ) → bracket-lts.Need-enum-known-r (bracket-calls t) (bracket-at t) bracket.Post
-bracket-enum-known-r t c = search needs
-
-bracket-enum-told-2 : (t : ℕ) → bracket-lts.Need-enum-told-2 (bracket-calls t) (bracket-at t) bracket.Post
-bracket-enum-told-2 t c = search needs
-
-bracket-same-length : (t : ℕ) → bracket-lts.Need-same-length (bracket-calls t) (bracket-at t) bracket.Post
-bracket-same-length t c = search needs
-
 bracket-returns-2 : (t : ℕ) → bracket-lts.Need-returns-2 (bracket-calls t) (bracket-at t) bracket.Post
 unfolding code-of
 bracket-returns-2 t c = stopped factor-way _ _ _ _ _ _ _ (c .enum-told2 .given .1) (bracket-refused (c .before .before .before .before .before .before .before .before .before .before .before .pre .1 .0 .stands) _ (c .before .before .before .before .before .before .before .before .before .before .before .pre .1 .1) (past _ _ _ (c .before .before .before .before .before .before .before .before .advance .ensures) (c .before .before .before .before .before .before .a .given .1) .follows) _ _ (barred expression-way _ _ _ _ _ _ _ (c .enum-told2 .given .1) (c .before .before .before .expression .ensures)))
 
 bracket-expect-requires : (t : ℕ) → bracket-lts.Need-expect-requires (bracket-calls t) (bracket-at t) bracket.Post
 bracket-expect-requires t c κs = got expression-way (c .before .r .given .1) (c .before .before .before .before .expression .ensures) .passed .stands .within
-
-bracket-same-length-2 : (t : ℕ) → bracket-lts.Need-same-length-2 (bracket-calls t) (bracket-at t) bracket.Post
-bracket-same-length-2 t c = search needs
 
 bracket-returns-3 : (t : ℕ) → bracket-lts.Need-returns-3 (bracket-calls t) (bracket-at t) bracket.Post
 unfolding code-of
@@ -294,18 +276,6 @@ expression-Inv-loop allow text names table₀ left₀ need₀ table left need = 
 
 abbrev expression-μ-loop : expression-lts.MeasureT-loop
 expression-μ-loop allow text names table₀ left₀ need₀ table left need = length text - left .next .place
-
-expression-first-term-requires : (t : ℕ) → expression-lts.Need-first-term-requires (expression-calls t) (expression-at t) expression.Post expression-Inv-loop expression-μ-loop
-expression-first-term-requires t c κs = search needs
-
-expression-enum-known-first : (t : ℕ) → expression-lts.Need-enum-known-first (expression-calls t) (expression-at t) expression.Post expression-Inv-loop expression-μ-loop
-expression-enum-known-first t c = search needs
-
-expression-enum-told : (t : ℕ) → expression-lts.Need-enum-told (expression-calls t) (expression-at t) expression.Post expression-Inv-loop expression-μ-loop
-expression-enum-told t c = search needs
-
-expression-same-length : (t : ℕ) → expression-lts.Need-same-length (expression-calls t) (expression-at t) expression.Post expression-Inv-loop expression-μ-loop
-expression-same-length t c = search needs
 
 expression-returns : (t : ℕ) → expression-lts.Need-returns (expression-calls t) (expression-at t) expression.Post expression-Inv-loop expression-μ-loop
 unfolding Reads
@@ -318,29 +288,11 @@ expression-loop-holds t c = record { count = refl; on = λ before w g. g }
 expression-now : (t : ℕ) (c : expression-lts.At-loop (expression-calls t) (expression-at t) expression.Post expression-Inv-loop expression-μ-loop) → Got first-term-way (now (c .before .before .before .before .before .before .before .before .before .args .text)) (now (c .before .before .before .before .before .before .before .before .before .args .names)) (now (c .before .before .before .before .before .before .before .before .before .args .table)) (c .before .before .before .before .before .before .before .before .before .args .w) (c .before .before .before .before .before .before .before .before .before .args .allow) (now (c .before .before .before .before .before .before .before .before .before .args .names)) (c .loop .table) (c .loop .left) (record { need = c .loop .need })
 expression-now t c = c .loop .inv .on _ _ (got first-term-way (c .before .before .first .given .1) (c .before .before .before .before .before .first-term .ensures))
 
-expression-fixed-ahead-requires : (t : ℕ) → expression-lts.Need-fixed-ahead-requires (expression-calls t) (expression-at t) expression.Post expression-Inv-loop expression-μ-loop
-expression-fixed-ahead-requires t c κs = search needs
-
-expression-is-sign-requires : (t : ℕ) → expression-lts.Need-is-sign-requires (expression-calls t) (expression-at t) expression.Post expression-Inv-loop expression-μ-loop
-expression-is-sign-requires t c κs = search needs
-
-expression-same-length-2 : (t : ℕ) → expression-lts.Need-same-length-2 (expression-calls t) (expression-at t) expression.Post expression-Inv-loop expression-μ-loop
-expression-same-length-2 t c = search needs
-
 expression-returns-2 : (t : ℕ) → expression-lts.Need-returns-2 (expression-calls t) (expression-at t) expression.Post expression-Inv-loop expression-μ-loop
 expression-returns-2 t c = let g = expression-now t (c .before .before .before) in done expression-way refl (record { what = g .what; passed = expression-whole _ (g .what) (g .passed) (ap is-sign (sym (c .before .before .fixed-ahead .ensures)) ∙ sym (c .before .is-sign .ensures) ∙ flag-off _ (c .if1 .taken)); laid = g .laid })
 
 expression-advance-requires : (t : ℕ) → expression-lts.Need-advance-requires (expression-calls t) (expression-at t) expression.Post expression-Inv-loop expression-μ-loop
 expression-advance-requires t c κs = expression-now t (c .before .before .before) .passed .stands .within
-
-expression-enum-known-a : (t : ℕ) → expression-lts.Need-enum-known-a (expression-calls t) (expression-at t) expression.Post expression-Inv-loop expression-μ-loop
-expression-enum-known-a t c = search needs
-
-expression-enum-told-2 : (t : ℕ) → expression-lts.Need-enum-told-2 (expression-calls t) (expression-at t) expression.Post expression-Inv-loop expression-μ-loop
-expression-enum-told-2 t c = search needs
-
-expression-same-length-3 : (t : ℕ) → expression-lts.Need-same-length-3 (expression-calls t) (expression-at t) expression.Post expression-Inv-loop expression-μ-loop
-expression-same-length-3 t c = search needs
 
 expression-returns-3 : (t : ℕ) → expression-lts.Need-returns-3 (expression-calls t) (expression-at t) expression.Post expression-Inv-loop expression-μ-loop
 expression-returns-3 t c = stopped expression-way _ _ _ _ _ _ _ (c .enum-told2 .given .1) (right-lost expression-joins (expression-now t (c .before .before .before .before .before .before)) (c .before .before .before .before .before .fixed-ahead .ensures) (sym (c .before .before .before .before .is-sign .ensures) ∙ flag-on _ (c .before .before .before .if1 .left)) (unread _ _ _ (c .before .before .advance .ensures) (c .enum-told2 .given .1)))
@@ -348,29 +300,14 @@ expression-returns-3 t c = stopped expression-way _ _ _ _ _ _ _ (c .enum-told2 .
 expression-term-requires : (t : ℕ) → expression-lts.Need-term-requires (expression-calls t) (expression-at t) expression.Post expression-Inv-loop expression-μ-loop
 expression-term-requires t c κs = (omega (arith, c .before .before .before .before .before .before .before .before .before .before .before .before .before .before .before .before .before .pre .0), (ready-past (ready-got (c .before .before .before .before .before .before .before .before .before .before .before .before .before .before .before .before .before .pre .1) (expression-now t (c .before .before .before .before .before .before .before .before))) _ (le-refl _) (past _ _ _ (c .before .before .before .before .advance .ensures) (c .before .before .a .given .1))))
 
-expression-enum-known-r : (t : ℕ) → expression-lts.Need-enum-known-r (expression-calls t) (expression-at t) expression.Post expression-Inv-loop expression-μ-loop
-expression-enum-known-r t c = search needs
-
-expression-enum-told-3 : (t : ℕ) → expression-lts.Need-enum-told-3 (expression-calls t) (expression-at t) expression.Post expression-Inv-loop expression-μ-loop
-expression-enum-told-3 t c = search needs
-
-expression-same-length-4 : (t : ℕ) → expression-lts.Need-same-length-4 (expression-calls t) (expression-at t) expression.Post expression-Inv-loop expression-μ-loop
-expression-same-length-4 t c = search needs
-
 expression-returns-4 : (t : ℕ) → expression-lts.Need-returns-4 (expression-calls t) (expression-at t) expression.Post expression-Inv-loop expression-μ-loop
 expression-returns-4 t c = stopped expression-way _ _ _ _ _ _ _ (c .enum-told3 .given .1) (right-refused expression-joins (expression-now t (c .before .before .before .before .before .before .before .before .before .before .before .before)) (c .before .before .before .before .before .before .before .before .before .before .before .fixed-ahead .ensures) (sym (c .before .before .before .before .before .before .before .before .before .before .is-sign .ensures) ∙ flag-on _ (c .before .before .before .before .before .before .before .before .before .if1 .left)) (past _ _ _ (c .before .before .before .before .before .before .before .before .advance .ensures) (c .before .before .before .before .before .before .a .given .1)) _ _ (barred term-way _ _ _ _ _ _ _ (c .enum-told3 .given .1) (c .before .before .before .term .ensures)))
-
-expression-operation-requires : (t : ℕ) → expression-lts.Need-operation-requires (expression-calls t) (expression-at t) expression.Post expression-Inv-loop expression-μ-loop
-expression-operation-requires t c κs = search needs
 
 expression-emitted-requires : (t : ℕ) → expression-lts.Need-emitted-requires (expression-calls t) (expression-at t) expression.Post expression-Inv-loop expression-μ-loop
 expression-emitted-requires t c κs = counts-got (ready-past (ready-got (c .before .before .before .before .before .before .before .before .before .before .before .before .before .before .before .before .before .before .before .before .before .before .before .before .pre .1) (expression-now t (c .before .before .before .before .before .before .before .before .before .before .before .before .before .before .before))) _ (le-refl _) (past _ _ _ (c .before .before .before .before .before .before .before .before .before .before .before .advance .ensures) (c .before .before .before .before .before .before .before .before .before .a .given .1))) (got term-way (c .before .before .before .r .given .1) (c .before .before .before .before .before .before .term .ensures)) .0
 
 expression-add-larger : (t : ℕ) → expression-lts.Need-add-larger (expression-calls t) (expression-at t) expression.Post expression-Inv-loop expression-μ-loop
 expression-add-larger t c = omega (arith, counts-got (ready-past (ready-got (c .before .before .before .before .before .before .before .before .before .before .before .before .before .before .before .before .before .before .before .before .before .before .before .before .before .before .before .pre .1) (expression-now t (c .before .before .before .before .before .before .before .before .before .before .before .before .before .before .before .before .before .before))) _ (le-refl _) (past _ _ _ (c .before .before .before .before .before .before .before .before .before .before .before .before .before .before .advance .ensures) (c .before .before .before .before .before .before .before .before .before .before .before .before .a .given .1))) (got term-way (c .before .before .before .before .before .before .r .given .1) (c .before .before .before .before .before .before .before .before .before .term .ensures)) .1)
-
-expression-larger-requires : (t : ℕ) → expression-lts.Need-larger-requires (expression-calls t) (expression-at t) expression.Post expression-Inv-loop expression-μ-loop
-expression-larger-requires t c κs = search needs
 
 expression-loop-less : (t : ℕ) → expression-lts.Need-loop-less (expression-calls t) (expression-at t) expression.Post expression-Inv-loop expression-μ-loop
 unfolding one-more
@@ -379,15 +316,6 @@ expression-loop-less t c = rw (c .before .before .before .emitted .ensures .0) (
 expression-loop-again : (t : ℕ) → expression-lts.Need-loop-again (expression-calls t) (expression-at t) expression.Post expression-Inv-loop expression-μ-loop
 expression-loop-again t c = rw (c .before .before .before .emitted .ensures .0, c .before .before .before .emitted .ensures .1, toZ-ofZ (record { sfits = c .before .before .before .before .operation .ok }), c .before .before .before .before .operation .ensures, c .larger .ensures) (round-on expression-joins (c .before .before .before .before .before .before .before .before .before .before .before .before .before .before .before .before .before .before .before .loop .inv) (c .before .before .before .before .before .before .before .before .before .before .before .before .before .before .before .before .before .before .fixed-ahead .ensures) (sym (c .before .before .before .before .before .before .before .before .before .before .before .before .before .before .before .before .before .is-sign .ensures) ∙ flag-on _ (c .before .before .before .before .before .before .before .before .before .before .before .before .before .before .before .before .if1 .left)) (past _ _ _ (c .before .before .before .before .before .before .before .before .before .before .before .before .before .before .before .advance .ensures) (c .before .before .before .before .before .before .before .before .before .before .before .before .before .a .given .1)) (got term-way (c .before .before .before .before .before .before .before .r .given .1) (c .before .before .before .before .before .before .before .before .before .before .term .ensures)) (c .before .before .before .before .before .before .before .before .before .before .term .kept .1 .1 .1 .0))
 
-factor-enum-known-kind : (t : ℕ) → factor-lts.Need-enum-known-kind (factor-calls t) (factor-at t) factor.Post
-factor-enum-known-kind t c = search needs
-
-factor-cast-operand : (t : ℕ) → factor-lts.Need-cast-operand (factor-calls t) (factor-at t) factor.Post
-factor-cast-operand t c = search needs
-
-factor-operand-requires : (t : ℕ) → factor-lts.Need-operand-requires (factor-calls t) (factor-at t) factor.Post
-factor-operand-requires t c κs = search needs
-
 factor-emitted-requires : (t : ℕ) → factor-lts.Need-emitted-requires (factor-calls t) (factor-at t) factor.Post
 factor-emitted-requires t c κs = code-fits (c .before .before .before .before .before .before .before .before .pre .1)
 
@@ -395,24 +323,12 @@ factor-advance-requires : (t : ℕ) → factor-lts.Need-advance-requires (factor
 unfolding one-more
 factor-advance-requires t c κs = rw (c .before .emitted .ensures .0) (c .before .before .before .before .before .before .before .before .before .before .pre .1 .stands .within)
 
-factor-enum-told : (t : ℕ) → factor-lts.Need-enum-told (factor-calls t) (factor-at t) factor.Post
-factor-enum-told t c = search needs
-
 factor-used-requires : (t : ℕ) → factor-lts.Need-used-requires (factor-calls t) (factor-at t) factor.Post
 factor-used-requires t c κs = code-fits (c .before .before .before .before .before .before .pre .1)
 
 factor-advance-requires-2 : (t : ℕ) → factor-lts.Need-advance-requires-2 (factor-calls t) (factor-at t) factor.Post
 unfolding one-more
 factor-advance-requires-2 t c κs = rw (c .before .used .ensures .0, noted-is) (c .before .before .before .before .before .before .before .before .pre .1 .stands .within)
-
-factor-enum-told-2 : (t : ℕ) → factor-lts.Need-enum-told-2 (factor-calls t) (factor-at t) factor.Post
-factor-enum-told-2 t c = search needs
-
-factor-enum-told-3 : (t : ℕ) → factor-lts.Need-enum-told-3 (factor-calls t) (factor-at t) factor.Post
-factor-enum-told-3 t c = search needs
-
-factor-enum-known-kind-2 : (t : ℕ) → factor-lts.Need-enum-known-kind-2 (factor-calls t) (factor-at t) factor.Post
-factor-enum-known-kind-2 t c = search needs
 
 factor-returns : (t : ℕ) → factor-lts.Need-returns (factor-calls t) (factor-at t) factor.Post
 unfolding Reads code-of
@@ -422,20 +338,11 @@ factor-returns-2 : (t : ℕ) → factor-lts.Need-returns-2 (factor-calls t) (fac
 unfolding Reads code-of
 factor-returns-2 t c = bracket-too-deep (c .before .before .before .before .before .before .before .before .pre .1 .stands) _ (fixed-is (c .before .before .before .kind2 .given .1) ∙ c .before .if1 .left) (c .if2 .taken)
 
-factor-sub-bracket : (t : ℕ) → factor-lts.Need-sub-bracket (factor-calls t) (factor-at t) factor.Post
-factor-sub-bracket t c = search needs
-
 factor-bracket-requires : (t : ℕ) → factor-lts.Need-bracket-requires (factor-calls t) (factor-at t) factor.Post
 factor-bracket-requires t c κs = (omega (arith, c .before .before .before .before .before .before .before .before .before .pre .0, c .before .if2 .left), (one-allowed (c .before .before .before .before .before .before .before .before .before .pre .1) (c .before .if2 .left), fixed-is (c .before .before .before .before .kind2 .given .1) ∙ c .before .before .if1 .left))
 
-factor-same-length : (t : ℕ) → factor-lts.Need-same-length (factor-calls t) (factor-at t) factor.Post
-factor-same-length t c = search needs
-
 factor-returns-3 : (t : ℕ) → factor-lts.Need-returns-3 (factor-calls t) (factor-at t) factor.Post
 factor-returns-3 t c = literal-read _ (c .before .before .before .before .before .before .before .before .before .before .before .pre .1) (c .before .before .before .before .before .before .kind .given .1) (c .before .before .emitted .ensures .0) (toZ-ofZ (record { sfits = c .before .before .before .operand .ok }) ∙ c .before .before .before .operand .ensures) (c .before .before .emitted .ensures .1) _ (c .advance .ensures)
-
-factor-same-length-2 : (t : ℕ) → factor-lts.Need-same-length-2 (factor-calls t) (factor-at t) factor.Post
-factor-same-length-2 t c = search needs
 
 factor-returns-4 : (t : ℕ) → factor-lts.Need-returns-4 (factor-calls t) (factor-at t) factor.Post
 factor-returns-4 t c = variable-read _ (c .before .before .before .before .before .before .before .before .before .pre .1) (c .before .before .before .before .enum-told .given .1) (c .before .before .used .ensures .0) (c .before .before .used .ensures .1) _ (c .advance2 .ensures)
@@ -448,23 +355,8 @@ factor-returns-6 : (t : ℕ) → factor-lts.Need-returns-6 (factor-calls t) (fac
 unfolding Reads
 factor-returns-6 t c = no-factor (c .before .before .before .before .before .pre .1 .stands) _ (string-none (c .enum-told3 .given .1) .0) (string-none (c .enum-told3 .given .1) .1) (string-number (c .enum-told3 .given .1))
 
-factor-same-length-3 : (t : ℕ) → factor-lts.Need-same-length-3 (factor-calls t) (factor-at t) factor.Post
-factor-same-length-3 t c = search needs
-
 factor-returns-7 : (t : ℕ) → factor-lts.Need-returns-7 (factor-calls t) (factor-at t) factor.Post
 factor-returns-7 t c = one-read _ _ _ _ _ _ _ _ (c .before .before .before .if2 .left) (c .before .bracket .ensures)
-
-first-term-fixed-ahead-requires : (t : ℕ) → first-term-lts.Need-fixed-ahead-requires (first-term-calls t) (first-term-at t) first-term.Post
-first-term-fixed-ahead-requires t c κs = search needs
-
-first-term-is-sign-requires : (t : ℕ) → first-term-lts.Need-is-sign-requires (first-term-calls t) (first-term-at t) first-term.Post
-first-term-is-sign-requires t c κs = search needs
-
-first-term-term-requires : (t : ℕ) → first-term-lts.Need-term-requires (first-term-calls t) (first-term-at t) first-term.Post
-first-term-term-requires t c κs = search needs
-
-first-term-same-length : (t : ℕ) → first-term-lts.Need-same-length (first-term-calls t) (first-term-at t) first-term.Post
-first-term-same-length t c = search needs
 
 first-term-returns : (t : ℕ) → first-term-lts.Need-returns (first-term-calls t) (first-term-at t) first-term.Post
 first-term-returns t c = handed-on (unsigned-leads (c .before .before .before .before .before .before .before .before .pre .1 .stands) _ (ap is-sign (sym (c .before .before .before .before .before .fixed-ahead .ensures)) ∙ sym (c .before .before .before .before .is-sign .ensures) ∙ flag-off _ (c .before .before .before .if1 .taken))) (λ x v g l. lays-unsigned l) _ (c .before .term .ensures)
@@ -472,26 +364,11 @@ first-term-returns t c = handed-on (unsigned-leads (c .before .before .before .b
 first-term-advance-requires : (t : ℕ) → first-term-lts.Need-advance-requires (first-term-calls t) (first-term-at t) first-term.Post
 first-term-advance-requires t c κs = c .before .before .before .before .before .pre .1 .stands .within
 
-first-term-enum-known-a : (t : ℕ) → first-term-lts.Need-enum-known-a (first-term-calls t) (first-term-at t) first-term.Post
-first-term-enum-known-a t c = search needs
-
-first-term-enum-told : (t : ℕ) → first-term-lts.Need-enum-told (first-term-calls t) (first-term-at t) first-term.Post
-first-term-enum-told t c = search needs
-
 first-term-returns-2 : (t : ℕ) → first-term-lts.Need-returns-2 (first-term-calls t) (first-term-at t) first-term.Post
 first-term-returns-2 t c = stopped first-term-way _ _ _ _ _ _ _ (c .enum-told .given .1) (lost-first first-term-way _ _ _ (sign-ahead (c .before .before .before .before .before .before .before .before .pre .1) (c .before .before .before .before .before .fixed-ahead .ensures) (sym (c .before .before .before .before .is-sign .ensures) ∙ flag-on _ (c .before .before .before .if1 .left)) .goes) (unread _ _ _ (c .before .before .advance .ensures) (c .enum-told .given .1)))
 
 first-term-term-requires-2 : (t : ℕ) → first-term-lts.Need-term-requires-2 (first-term-calls t) (first-term-at t) first-term.Post
 first-term-term-requires-2 t c κs = (omega arith, ready-past (c .before .before .before .before .before .before .before .before .before .before .pre .1) _ (le-refl _) (past _ _ _ (c .before .before .before .before .advance .ensures) (c .before .before .a .given .1)))
-
-first-term-enum-known-r : (t : ℕ) → first-term-lts.Need-enum-known-r (first-term-calls t) (first-term-at t) first-term.Post
-first-term-enum-known-r t c = search needs
-
-first-term-enum-told-2 : (t : ℕ) → first-term-lts.Need-enum-told-2 (first-term-calls t) (first-term-at t) first-term.Post
-first-term-enum-told-2 t c = search needs
-
-first-term-same-length-2 : (t : ℕ) → first-term-lts.Need-same-length-2 (first-term-calls t) (first-term-at t) first-term.Post
-first-term-same-length-2 t c = search needs
 
 first-term-returns-3 : (t : ℕ) → first-term-lts.Need-returns-3 (first-term-calls t) (first-term-at t) first-term.Post
 first-term-returns-3 t c = stopped first-term-way _ _ _ _ _ _ _ (c .enum-told2 .given .1) (signed-leads (c .before .before .before .before .before .before .before .before .before .before .before .before .before .before .pre .1 .stands) _ (sign-ahead (c .before .before .before .before .before .before .before .before .before .before .before .before .before .before .pre .1) (c .before .before .before .before .before .before .before .before .before .before .before .fixed-ahead .ensures) (sym (c .before .before .before .before .before .before .before .before .before .before .is-sign .ensures) ∙ flag-on _ (c .before .before .before .before .before .before .before .before .before .if1 .left))) (past _ _ _ (c .before .before .before .before .before .before .before .before .advance .ensures) (c .before .before .before .before .before .before .a .given .1) .follows) .refuses _ _ (barred term-way _ _ _ _ _ _ _ (c .enum-told2 .given .1) (c .before .before .before .term2 .ensures)))
@@ -499,14 +376,8 @@ first-term-returns-3 t c = stopped first-term-way _ _ _ _ _ _ _ (c .enum-told2 .
 first-term-emitted-requires : (t : ℕ) → first-term-lts.Need-emitted-requires (first-term-calls t) (first-term-at t) first-term.Post
 first-term-emitted-requires t c κs = counts-got (ready-past (c .before .before .before .before .before .before .before .before .before .before .before .before .before .before .before .before .before .pre .1) _ (le-refl _) (past _ _ _ (c .before .before .before .before .before .before .before .before .before .before .before .advance .ensures) (c .before .before .before .before .before .before .before .before .before .a .given .1))) (got term-way (c .before .before .before .r .given .1) (c .before .before .before .before .before .before .term2 .ensures)) .0
 
-first-term-same-length-3 : (t : ℕ) → first-term-lts.Need-same-length-3 (first-term-calls t) (first-term-at t) first-term.Post
-first-term-same-length-3 t c = search needs
-
 first-term-returns-4 : (t : ℕ) → first-term-lts.Need-returns-4 (first-term-calls t) (first-term-at t) first-term.Post
 first-term-returns-4 t c = done first-term-way refl (rw (c .before .emitted .ensures .0, c .before .emitted .ensures .1) (minus-got (c .before .before .before .before .before .before .before .before .before .before .before .before .before .before .before .before .before .before .before .pre .1) (sign-ahead (c .before .before .before .before .before .before .before .before .before .before .before .before .before .before .before .before .before .before .before .pre .1) (c .before .before .before .before .before .before .before .before .before .before .before .before .before .before .before .before .fixed-ahead .ensures) (sym (c .before .before .before .before .before .before .before .before .before .before .before .before .before .before .before .is-sign .ensures) ∙ flag-on _ (c .before .before .before .before .before .before .before .before .before .before .before .before .before .before .if1 .left))) (past _ _ _ (c .before .before .before .before .before .before .before .before .before .before .before .before .before .advance .ensures) (c .before .before .before .before .before .before .before .before .before .before .before .a .given .1)) (got term-way (c .before .before .before .before .before .r .given .1) (c .before .before .before .before .before .before .before .before .term2 .ensures)) (sym (c .before .before .before .before .before .before .before .before .before .before .before .before .before .before .before .before .fixed-ahead .ensures) ∙ c .before .before .before .if2 .taken)))
-
-first-term-same-length-4 : (t : ℕ) → first-term-lts.Need-same-length-4 (first-term-calls t) (first-term-at t) first-term.Post
-first-term-same-length-4 t c = search needs
 
 first-term-returns-5 : (t : ℕ) → first-term-lts.Need-returns-5 (first-term-calls t) (first-term-at t) first-term.Post
 first-term-returns-5 t c = done first-term-way refl (plus-got (c .before .before .before .before .before .before .before .before .before .before .before .before .before .before .before .before .pre .1) (sign-ahead (c .before .before .before .before .before .before .before .before .before .before .before .before .before .before .before .before .pre .1) (c .before .before .before .before .before .before .before .before .before .before .before .before .before .fixed-ahead .ensures) (sym (c .before .before .before .before .before .before .before .before .before .before .before .before .is-sign .ensures) ∙ flag-on _ (c .before .before .before .before .before .before .before .before .before .before .before .if1 .left))) (past _ _ _ (c .before .before .before .before .before .before .before .before .before .before .advance .ensures) (c .before .before .before .before .before .before .before .before .a .given .1)) (got term-way (c .before .before .r .given .1) (c .before .before .before .before .before .term2 .ensures)) (λ z. c .if2 .left (c .before .before .before .before .before .before .before .before .before .before .before .before .before .fixed-ahead .ensures ∙ z)))
@@ -516,18 +387,6 @@ term-Inv-loop allow text names table₀ left₀ need₀ table left need = Rounds
 
 abbrev term-μ-loop : term-lts.MeasureT-loop
 term-μ-loop allow text names table₀ left₀ need₀ table left need = length text - left .next .place
-
-term-factor-requires : (t : ℕ) → term-lts.Need-factor-requires (term-calls t) (term-at t) term.Post term-Inv-loop term-μ-loop
-term-factor-requires t c κs = search needs
-
-term-enum-known-first : (t : ℕ) → term-lts.Need-enum-known-first (term-calls t) (term-at t) term.Post term-Inv-loop term-μ-loop
-term-enum-known-first t c = search needs
-
-term-enum-told : (t : ℕ) → term-lts.Need-enum-told (term-calls t) (term-at t) term.Post term-Inv-loop term-μ-loop
-term-enum-told t c = search needs
-
-term-same-length : (t : ℕ) → term-lts.Need-same-length (term-calls t) (term-at t) term.Post term-Inv-loop term-μ-loop
-term-same-length t c = search needs
 
 term-returns : (t : ℕ) → term-lts.Need-returns (term-calls t) (term-at t) term.Post term-Inv-loop term-μ-loop
 unfolding Reads
@@ -540,29 +399,11 @@ term-loop-holds t c = record { count = refl; on = λ before w g. g }
 term-now : (t : ℕ) (c : term-lts.At-loop (term-calls t) (term-at t) term.Post term-Inv-loop term-μ-loop) → Got term-so-far (now (c .before .before .before .before .before .before .before .before .before .args .text)) (now (c .before .before .before .before .before .before .before .before .before .args .names)) (now (c .before .before .before .before .before .before .before .before .before .args .table)) (c .before .before .before .before .before .before .before .before .before .args .w) (c .before .before .before .before .before .before .before .before .before .args .allow) (now (c .before .before .before .before .before .before .before .before .before .args .names)) (c .loop .table) (c .loop .left) (record { need = c .loop .need })
 term-now t c = c .loop .inv .on _ _ (first-factor (got factor-way (c .before .before .first .given .1) (c .before .before .before .before .before .factor .ensures)))
 
-term-fixed-ahead-requires : (t : ℕ) → term-lts.Need-fixed-ahead-requires (term-calls t) (term-at t) term.Post term-Inv-loop term-μ-loop
-term-fixed-ahead-requires t c κs = search needs
-
-term-is-mul-requires : (t : ℕ) → term-lts.Need-is-mul-requires (term-calls t) (term-at t) term.Post term-Inv-loop term-μ-loop
-term-is-mul-requires t c κs = search needs
-
-term-same-length-2 : (t : ℕ) → term-lts.Need-same-length-2 (term-calls t) (term-at t) term.Post term-Inv-loop term-μ-loop
-term-same-length-2 t c = search needs
-
 term-returns-2 : (t : ℕ) → term-lts.Need-returns-2 (term-calls t) (term-at t) term.Post term-Inv-loop term-μ-loop
 term-returns-2 t c = let g = term-now t (c .before .before .before) in done term-way refl (record { what = g .what; passed = term-whole _ (g .what) (g .passed) (ap is-mul (sym (c .before .before .fixed-ahead .ensures)) ∙ sym (c .before .is-mul .ensures) ∙ flag-off _ (c .if1 .taken)); laid = g .laid })
 
 term-advance-requires : (t : ℕ) → term-lts.Need-advance-requires (term-calls t) (term-at t) term.Post term-Inv-loop term-μ-loop
 term-advance-requires t c κs = term-now t (c .before .before .before) .passed .stands .within
-
-term-enum-known-a : (t : ℕ) → term-lts.Need-enum-known-a (term-calls t) (term-at t) term.Post term-Inv-loop term-μ-loop
-term-enum-known-a t c = search needs
-
-term-enum-told-2 : (t : ℕ) → term-lts.Need-enum-told-2 (term-calls t) (term-at t) term.Post term-Inv-loop term-μ-loop
-term-enum-told-2 t c = search needs
-
-term-same-length-3 : (t : ℕ) → term-lts.Need-same-length-3 (term-calls t) (term-at t) term.Post term-Inv-loop term-μ-loop
-term-same-length-3 t c = search needs
 
 term-returns-3 : (t : ℕ) → term-lts.Need-returns-3 (term-calls t) (term-at t) term.Post term-Inv-loop term-μ-loop
 term-returns-3 t c = stopped term-way _ _ _ _ _ _ _ (c .enum-told2 .given .1) (right-lost term-joins (term-now t (c .before .before .before .before .before .before)) (c .before .before .before .before .before .fixed-ahead .ensures) (sym (c .before .before .before .before .is-mul .ensures) ∙ flag-on _ (c .before .before .before .if1 .left)) (unread _ _ _ (c .before .before .advance .ensures) (c .enum-told2 .given .1)))
@@ -570,29 +411,14 @@ term-returns-3 t c = stopped term-way _ _ _ _ _ _ _ (c .enum-told2 .given .1) (r
 term-factor-requires-2 : (t : ℕ) → term-lts.Need-factor-requires-2 (term-calls t) (term-at t) term.Post term-Inv-loop term-μ-loop
 term-factor-requires-2 t c κs = (omega (arith, c .before .before .before .before .before .before .before .before .before .before .before .before .before .before .before .before .before .pre .0), (ready-past (ready-got (c .before .before .before .before .before .before .before .before .before .before .before .before .before .before .before .before .before .pre .1) (term-now t (c .before .before .before .before .before .before .before .before))) _ (le-refl _) (past _ _ _ (c .before .before .before .before .advance .ensures) (c .before .before .a .given .1))))
 
-term-enum-known-r : (t : ℕ) → term-lts.Need-enum-known-r (term-calls t) (term-at t) term.Post term-Inv-loop term-μ-loop
-term-enum-known-r t c = search needs
-
-term-enum-told-3 : (t : ℕ) → term-lts.Need-enum-told-3 (term-calls t) (term-at t) term.Post term-Inv-loop term-μ-loop
-term-enum-told-3 t c = search needs
-
-term-same-length-4 : (t : ℕ) → term-lts.Need-same-length-4 (term-calls t) (term-at t) term.Post term-Inv-loop term-μ-loop
-term-same-length-4 t c = search needs
-
 term-returns-4 : (t : ℕ) → term-lts.Need-returns-4 (term-calls t) (term-at t) term.Post term-Inv-loop term-μ-loop
 term-returns-4 t c = stopped term-way _ _ _ _ _ _ _ (c .enum-told3 .given .1) (right-refused term-joins (term-now t (c .before .before .before .before .before .before .before .before .before .before .before .before)) (c .before .before .before .before .before .before .before .before .before .before .before .fixed-ahead .ensures) (sym (c .before .before .before .before .before .before .before .before .before .before .is-mul .ensures) ∙ flag-on _ (c .before .before .before .before .before .before .before .before .before .if1 .left)) (past _ _ _ (c .before .before .before .before .before .before .before .before .advance .ensures) (c .before .before .before .before .before .before .a .given .1)) _ _ (barred factor-way _ _ _ _ _ _ _ (c .enum-told3 .given .1) (c .before .before .before .factor2 .ensures)))
-
-term-operation-requires : (t : ℕ) → term-lts.Need-operation-requires (term-calls t) (term-at t) term.Post term-Inv-loop term-μ-loop
-term-operation-requires t c κs = search needs
 
 term-emitted-requires : (t : ℕ) → term-lts.Need-emitted-requires (term-calls t) (term-at t) term.Post term-Inv-loop term-μ-loop
 term-emitted-requires t c κs = counts-got (ready-past (ready-got (c .before .before .before .before .before .before .before .before .before .before .before .before .before .before .before .before .before .before .before .before .before .before .before .before .pre .1) (term-now t (c .before .before .before .before .before .before .before .before .before .before .before .before .before .before .before))) _ (le-refl _) (past _ _ _ (c .before .before .before .before .before .before .before .before .before .before .before .advance .ensures) (c .before .before .before .before .before .before .before .before .before .a .given .1))) (got factor-way (c .before .before .before .r .given .1) (c .before .before .before .before .before .before .factor2 .ensures)) .0
 
 term-add-larger : (t : ℕ) → term-lts.Need-add-larger (term-calls t) (term-at t) term.Post term-Inv-loop term-μ-loop
 term-add-larger t c = omega (arith, counts-got (ready-past (ready-got (c .before .before .before .before .before .before .before .before .before .before .before .before .before .before .before .before .before .before .before .before .before .before .before .before .before .before .before .pre .1) (term-now t (c .before .before .before .before .before .before .before .before .before .before .before .before .before .before .before .before .before .before))) _ (le-refl _) (past _ _ _ (c .before .before .before .before .before .before .before .before .before .before .before .before .before .before .advance .ensures) (c .before .before .before .before .before .before .before .before .before .before .before .before .a .given .1))) (got factor-way (c .before .before .before .before .before .before .r .given .1) (c .before .before .before .before .before .before .before .before .before .factor2 .ensures)) .1)
-
-term-larger-requires : (t : ℕ) → term-lts.Need-larger-requires (term-calls t) (term-at t) term.Post term-Inv-loop term-μ-loop
-term-larger-requires t c κs = search needs
 
 term-loop-less : (t : ℕ) → term-lts.Need-loop-less (term-calls t) (term-at t) term.Post term-Inv-loop term-μ-loop
 unfolding one-more
@@ -606,120 +432,120 @@ pub +bracket+expression+factor+first-term+term-spec : {M : Type 1} → statement
     close μ-bracket μ-expression μ-factor μ-first-term μ-term (λ t. bracket-lts.spec (bracket-calls t) (bracket-at t)
     bracket.Post
     (bracket-advance-requires t)
-    (bracket-enum-known-a t)
-    (bracket-enum-told t)
+    (λ c. search needs)
+    (λ c. search needs)
     (bracket-returns t)
     (bracket-expression-requires t)
-    (bracket-enum-known-r t)
-    (bracket-enum-told-2 t)
-    (bracket-same-length t)
+    (λ c. search needs)
+    (λ c. search needs)
+    (λ c. search needs)
     (bracket-returns-2 t)
     (bracket-expect-requires t)
-    (bracket-same-length-2 t)
+    (λ c. search needs)
     (bracket-returns-3 t))
     (λ t. expression-lts.spec (expression-calls t) (expression-at t)
     expression.Post
     expression-Inv-loop
     expression-μ-loop
-    (expression-first-term-requires t)
-    (expression-enum-known-first t)
-    (expression-enum-told t)
-    (expression-same-length t)
+    (λ c κs. search needs)
+    (λ c. search needs)
+    (λ c. search needs)
+    (λ c. search needs)
     (expression-returns t)
     (expression-loop-holds t)
-    (expression-fixed-ahead-requires t)
-    (expression-is-sign-requires t)
-    (expression-same-length-2 t)
+    (λ c κs. search needs)
+    (λ c κs. search needs)
+    (λ c. search needs)
     (expression-returns-2 t)
     (expression-advance-requires t)
-    (expression-enum-known-a t)
-    (expression-enum-told-2 t)
-    (expression-same-length-3 t)
+    (λ c. search needs)
+    (λ c. search needs)
+    (λ c. search needs)
     (expression-returns-3 t)
     (expression-term-requires t)
-    (expression-enum-known-r t)
-    (expression-enum-told-3 t)
-    (expression-same-length-4 t)
+    (λ c. search needs)
+    (λ c. search needs)
+    (λ c. search needs)
     (expression-returns-4 t)
-    (expression-operation-requires t)
+    (λ c κs. search needs)
     (expression-emitted-requires t)
     (expression-add-larger t)
-    (expression-larger-requires t)
+    (λ c κs. search needs)
     (expression-loop-less t)
     (expression-loop-again t))
     (λ t. factor-lts.spec (factor-calls t) (factor-at t)
     factor.Post
-    (factor-enum-known-kind t)
-    (factor-cast-operand t)
-    (factor-operand-requires t)
+    (λ c. search needs)
+    (λ c. search needs)
+    (λ c κs. search needs)
     (factor-emitted-requires t)
     (factor-advance-requires t)
-    (factor-enum-told t)
+    (λ c. search needs)
     (factor-used-requires t)
     (factor-advance-requires-2 t)
-    (factor-enum-told-2 t)
-    (factor-enum-told-3 t)
-    (factor-enum-known-kind-2 t)
+    (λ c. search needs)
+    (λ c. search needs)
+    (λ c. search needs)
     (factor-returns t)
     (factor-returns-2 t)
-    (factor-sub-bracket t)
+    (λ c. search needs)
     (factor-bracket-requires t)
-    (factor-same-length t)
+    (λ c. search needs)
     (factor-returns-3 t)
-    (factor-same-length-2 t)
+    (λ c. search needs)
     (factor-returns-4 t)
     (factor-returns-5 t)
     (factor-returns-6 t)
-    (factor-same-length-3 t)
+    (λ c. search needs)
     (factor-returns-7 t))
     (λ t. first-term-lts.spec (first-term-calls t) (first-term-at t)
     first-term.Post
-    (first-term-fixed-ahead-requires t)
-    (first-term-is-sign-requires t)
-    (first-term-term-requires t)
-    (first-term-same-length t)
+    (λ c κs. search needs)
+    (λ c κs. search needs)
+    (λ c κs. search needs)
+    (λ c. search needs)
     (first-term-returns t)
     (first-term-advance-requires t)
-    (first-term-enum-known-a t)
-    (first-term-enum-told t)
+    (λ c. search needs)
+    (λ c. search needs)
     (first-term-returns-2 t)
     (first-term-term-requires-2 t)
-    (first-term-enum-known-r t)
-    (first-term-enum-told-2 t)
-    (first-term-same-length-2 t)
+    (λ c. search needs)
+    (λ c. search needs)
+    (λ c. search needs)
     (first-term-returns-3 t)
     (first-term-emitted-requires t)
-    (first-term-same-length-3 t)
+    (λ c. search needs)
     (first-term-returns-4 t)
-    (first-term-same-length-4 t)
+    (λ c. search needs)
     (first-term-returns-5 t))
     λ t. term-lts.spec (term-calls t) (term-at t)
     term.Post
     term-Inv-loop
     term-μ-loop
-    (term-factor-requires t)
-    (term-enum-known-first t)
-    (term-enum-told t)
-    (term-same-length t)
+    (λ c κs. search needs)
+    (λ c. search needs)
+    (λ c. search needs)
+    (λ c. search needs)
     (term-returns t)
     (term-loop-holds t)
-    (term-fixed-ahead-requires t)
-    (term-is-mul-requires t)
-    (term-same-length-2 t)
+    (λ c κs. search needs)
+    (λ c κs. search needs)
+    (λ c. search needs)
     (term-returns-2 t)
     (term-advance-requires t)
-    (term-enum-known-a t)
-    (term-enum-told-2 t)
-    (term-same-length-3 t)
+    (λ c. search needs)
+    (λ c. search needs)
+    (λ c. search needs)
     (term-returns-3 t)
     (term-factor-requires-2 t)
-    (term-enum-known-r t)
-    (term-enum-told-3 t)
-    (term-same-length-4 t)
+    (λ c. search needs)
+    (λ c. search needs)
+    (λ c. search needs)
     (term-returns-4 t)
-    (term-operation-requires t)
+    (λ c κs. search needs)
     (term-emitted-requires t)
     (term-add-larger t)
-    (term-larger-requires t)
+    (λ c κs. search needs)
     (term-loop-less t)
     (term-loop-again t)

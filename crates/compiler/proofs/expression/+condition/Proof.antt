@@ -53,14 +53,8 @@ condition-below t =
 abbrev condition-calls : ℕ → condition-lts.Claims
 condition-calls t = (fixed-ahead-reads.Asked, fixed-ahead-reads.Learnt, comparison-reads.Asked, comparison-reads.Learnt, advance-reads.Asked, advance-reads.Learnt, condition-below t, condition.Post, emitted-reads.Asked, emitted-reads.Learnt)
 
-condition-fixed-ahead-requires : (t : ℕ) → condition-lts.Need-fixed-ahead-requires (condition-calls t) (condition-at t) condition.Post
-condition-fixed-ahead-requires t c κs = search needs
-
 condition-comparison-requires : (t : ℕ) → condition-lts.Need-comparison-requires (condition-calls t) (condition-at t) condition.Post
 condition-comparison-requires t c κs = c .before .before .before .before .before .pre .1
-
-condition-same-length : (t : ℕ) → condition-lts.Need-same-length (condition-calls t) (condition-at t) condition.Post
-condition-same-length t c = search needs
 
 condition-returns : (t : ℕ) → condition-lts.Need-returns (condition-calls t) (condition-at t) condition.Post
 unfolding code-of
@@ -73,30 +67,12 @@ condition-returns-2 t c = negated-too-deep (c .before .before .before .before .b
 condition-advance-requires : (t : ℕ) → condition-lts.Need-advance-requires (condition-calls t) (condition-at t) condition.Post
 condition-advance-requires t c κs = c .before .before .before .before .before .pre .1 .stands .within
 
-condition-enum-known-a : (t : ℕ) → condition-lts.Need-enum-known-a (condition-calls t) (condition-at t) condition.Post
-condition-enum-known-a t c = search needs
-
-condition-enum-told : (t : ℕ) → condition-lts.Need-enum-told (condition-calls t) (condition-at t) condition.Post
-condition-enum-told t c = search needs
-
 condition-returns-3 : (t : ℕ) → condition-lts.Need-returns-3 (condition-calls t) (condition-at t) condition.Post
 unfolding code-of
 condition-returns-3 t c = stopped condition-way _ _ _ _ _ _ _ (c .enum-told .given .1) (lost-first condition-way _ _ _ (going (c .before .before .before .before .before .before .before .before .args .w .next) (sym (c .before .before .before .before .before .fixed-ahead .ensures) ∙ c .before .before .before .before .if1 .left) (λ z. omega arith)) (unread _ _ _ (c .before .before .advance .ensures) (c .enum-told .given .1)))
 
-condition-sub-condition : (t : ℕ) → condition-lts.Need-sub-condition (condition-calls t) (condition-at t) condition.Post
-condition-sub-condition t c = search needs
-
 condition-condition-requires : (t : ℕ) → condition-lts.Need-condition-requires (condition-calls t) (condition-at t) condition.Post
 condition-condition-requires t c κs = (omega (arith, c .before .before .before .before .before .before .before .before .before .before .pre .0, c .before .before .before .before .before .if2 .left), ready-past (c .before .before .before .before .before .before .before .before .before .before .pre .1) _ (omega arith) (past _ _ _ (c .before .before .before .before .advance .ensures) (c .before .before .a .given .1)))
-
-condition-enum-known-r : (t : ℕ) → condition-lts.Need-enum-known-r (condition-calls t) (condition-at t) condition.Post
-condition-enum-known-r t c = search needs
-
-condition-enum-told-2 : (t : ℕ) → condition-lts.Need-enum-told-2 (condition-calls t) (condition-at t) condition.Post
-condition-enum-told-2 t c = search needs
-
-condition-same-length-2 : (t : ℕ) → condition-lts.Need-same-length-2 (condition-calls t) (condition-at t) condition.Post
-condition-same-length-2 t c = search needs
 
 condition-returns-4 : (t : ℕ) → condition-lts.Need-returns-4 (condition-calls t) (condition-at t) condition.Post
 unfolding code-of
@@ -105,9 +81,6 @@ condition-returns-4 t c = stopped condition-way _ _ _ _ _ _ _ (c .enum-told2 .gi
 condition-emitted-requires : (t : ℕ) → condition-lts.Need-emitted-requires (condition-calls t) (condition-at t) condition.Post
 condition-emitted-requires t c κs = counts-got (ready-past (c .before .before .before .before .before .before .before .before .before .before .before .before .before .before .before .before .pre .1) _ (le-refl _) (past _ _ _ (c .before .before .before .before .before .before .before .before .before .before .advance .ensures) (c .before .before .before .before .before .before .before .before .a .given .1))) (got condition-way (c .before .before .r .given .1) (c .before .before .before .before .before .condition .ensures)) .0
 
-condition-same-length-3 : (t : ℕ) → condition-lts.Need-same-length-3 (condition-calls t) (condition-at t) condition.Post
-condition-same-length-3 t c = search needs
-
 condition-returns-5 : (t : ℕ) → condition-lts.Need-returns-5 (condition-calls t) (condition-at t) condition.Post
 unfolding code-of
 condition-returns-5 t c = done condition-way refl (rw (c .before .emitted .ensures .0, c .before .emitted .ensures .1) (negated-got (c .before .before .before .before .before .before .before .before .before .before .before .before .before .before .before .before .before .before .pre .1) (sym (c .before .before .before .before .before .before .before .before .before .before .before .before .before .before .before .fixed-ahead .ensures) ∙ c .before .before .before .before .before .before .before .before .before .before .before .before .before .before .if1 .left) (c .before .before .before .before .before .before .before .before .before .before .before .before .before .if2 .left) (past _ _ _ (c .before .before .before .before .before .before .before .before .before .before .before .before .advance .ensures) (c .before .before .before .before .before .before .before .before .before .before .a .given .1)) (got condition-way (c .before .before .before .before .r .given .1) (c .before .before .before .before .before .before .before .condition .ensures))))
@@ -115,21 +88,21 @@ condition-returns-5 t c = done condition-way refl (rw (c .before .emitted .ensur
 pub +condition-spec : {M : Type 1} → statement M
 +condition-spec = close μ-condition λ t. condition-lts.spec (condition-calls t) (condition-at t)
     condition.Post
-    (condition-fixed-ahead-requires t)
+    (λ c κs. search needs)
     (condition-comparison-requires t)
-    (condition-same-length t)
+    (λ c. search needs)
     (condition-returns t)
     (condition-returns-2 t)
     (condition-advance-requires t)
-    (condition-enum-known-a t)
-    (condition-enum-told t)
+    (λ c. search needs)
+    (λ c. search needs)
     (condition-returns-3 t)
-    (condition-sub-condition t)
+    (λ c. search needs)
     (condition-condition-requires t)
-    (condition-enum-known-r t)
-    (condition-enum-told-2 t)
-    (condition-same-length-2 t)
+    (λ c. search needs)
+    (λ c. search needs)
+    (λ c. search needs)
     (condition-returns-4 t)
     (condition-emitted-requires t)
-    (condition-same-length-3 t)
+    (λ c. search needs)
     (condition-returns-5 t)

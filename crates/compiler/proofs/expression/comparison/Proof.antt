@@ -12,29 +12,8 @@ use borrow.Author.Needs.{needs}
 use Rattle.compiler.proofs.expression.comparison.Statement.{statement}
 use Rattle.compiler.proofs.expression.comparison.Tie as tie
 
-expression-requires : tie.Need-expression-requires
-expression-requires c κs = search needs
-
-enum-known-left : tie.Need-enum-known-left
-enum-known-left c = search needs
-
-enum-told : tie.Need-enum-told
-enum-told c = search needs
-
-same-length : tie.Need-same-length
-same-length c = search needs
-
 returns : tie.Need-returns
 returns c = stopped comparison-way _ _ _ _ _ _ _ (c .enum-told .given .1) (comparison-refused _ _ _ _ _ (barred expression-way _ _ _ _ _ _ _ (c .enum-told .given .1) (c .before .before .before .expression .ensures)))
-
-fixed-ahead-requires : tie.Need-fixed-ahead-requires
-fixed-ahead-requires c κs = search needs
-
-is-rel-requires : tie.Need-is-rel-requires
-is-rel-requires c κs = search needs
-
-same-length-2 : tie.Need-same-length-2
-same-length-2 c = search needs
 
 returns-2 : tie.Need-returns-2
 unfolding Reads
@@ -43,41 +22,17 @@ returns-2 c = let g = (got expression-way (c .before .before .before .before .be
 advance-requires : tie.Need-advance-requires
 advance-requires c κs = (got expression-way (c .before .before .before .before .left .given .1) (c .before .before .before .before .before .before .before .expression .ensures)) .passed .stands .within
 
-enum-known-a : tie.Need-enum-known-a
-enum-known-a c = search needs
-
-enum-told-2 : tie.Need-enum-told-2
-enum-told-2 c = search needs
-
-same-length-3 : tie.Need-same-length-3
-same-length-3 c = search needs
-
 returns-3 : tie.Need-returns-3
 returns-3 c = stopped comparison-way _ _ _ _ _ _ _ (c .enum-told2 .given .1) (right-lost comparison-joins (got expression-way (c .before .before .before .before .before .before .before .left .given .1) (c .before .before .before .before .before .before .before .before .before .before .expression .ensures)) (c .before .before .before .before .before .fixed-ahead .ensures) (sym (c .before .before .before .before .is-rel .ensures) ∙ flag-on _ (c .before .before .before .if1 .left)) (unread _ _ _ (c .before .before .advance .ensures) (c .enum-told2 .given .1)))
 
 expression-requires-2 : tie.Need-expression-requires-2
 expression-requires-2 c κs = (ready-past (ready-got (c .before .before .before .before .before .before .before .before .before .before .before .before .before .before .before .before .pre) (got expression-way (c .before .before .before .before .before .before .before .before .before .left .given .1) (c .before .before .before .before .before .before .before .before .before .before .before .before .expression .ensures))) _ (le-refl _) (past _ _ _ (c .before .before .before .before .advance .ensures) (c .before .before .a .given .1)))
 
-enum-known-right : tie.Need-enum-known-right
-enum-known-right c = search needs
-
-enum-told-3 : tie.Need-enum-told-3
-enum-told-3 c = search needs
-
-same-length-4 : tie.Need-same-length-4
-same-length-4 c = search needs
-
 returns-4 : tie.Need-returns-4
 returns-4 c = stopped comparison-way _ _ _ _ _ _ _ (c .enum-told3 .given .1) (right-refused comparison-joins (got expression-way (c .before .before .before .before .before .before .before .before .before .before .before .before .before .left .given .1) (c .before .before .before .before .before .before .before .before .before .before .before .before .before .before .before .before .expression .ensures)) (c .before .before .before .before .before .before .before .before .before .before .before .fixed-ahead .ensures) (sym (c .before .before .before .before .before .before .before .before .before .before .is-rel .ensures) ∙ flag-on _ (c .before .before .before .before .before .before .before .before .before .if1 .left)) (past _ _ _ (c .before .before .before .before .before .before .before .before .advance .ensures) (c .before .before .before .before .before .before .a .given .1)) _ _ (barred expression-way _ _ _ _ _ _ _ (c .enum-told3 .given .1) (c .before .before .before .expression2 .ensures)))
 
 add-larger : tie.Need-add-larger
 add-larger c = omega (arith, counts-got (ready-past (ready-got (c .before .before .before .before .before .before .before .before .before .before .before .before .before .before .before .before .before .before .before .before .before .before .pre) (got expression-way (c .before .before .before .before .before .before .before .before .before .before .before .before .before .before .before .left .given .1) (c .before .before .before .before .before .before .before .before .before .before .before .before .before .before .before .before .before .before .expression .ensures))) _ (le-refl _) (past _ _ _ (c .before .before .before .before .before .before .before .before .before .before .advance .ensures) (c .before .before .before .before .before .before .before .before .a .given .1))) (got expression-way (c .before .before .right .given .1) (c .before .before .before .before .before .expression2 .ensures)) .1)
-
-larger-requires : tie.Need-larger-requires
-larger-requires c κs = search needs
-
-operation-requires : tie.Need-operation-requires
-operation-requires c κs = search needs
 
 emitted-requires : tie.Need-emitted-requires
 emitted-requires c κs = counts-got (ready-past (ready-got (c .before .before .before .before .before .before .before .before .before .before .before .before .before .before .before .before .before .before .before .before .before .before .before .before .before .pre) (got expression-way (c .before .before .before .before .before .before .before .before .before .before .before .before .before .before .before .before .before .before .left .given .1) (c .before .before .before .before .before .before .before .before .before .before .before .before .before .before .before .before .before .before .before .before .before .expression .ensures))) _ (le-refl _) (past _ _ _ (c .before .before .before .before .before .before .before .before .before .before .before .before .before .advance .ensures) (c .before .before .before .before .before .before .before .before .before .before .before .a .given .1))) (got expression-way (c .before .before .before .before .before .right .given .1) (c .before .before .before .before .before .before .before .before .expression2 .ensures)) .0
@@ -92,28 +47,28 @@ pub comparison-spec : {M : Type 1} → statement M
 comparison-spec =
     tie.close
     (tie.spec
-    expression-requires
-    enum-known-left
-    enum-told
-    same-length
+    (λ c κs. search needs)
+    (λ c. search needs)
+    (λ c. search needs)
+    (λ c. search needs)
     returns
-    fixed-ahead-requires
-    is-rel-requires
-    same-length-2
+    (λ c κs. search needs)
+    (λ c κs. search needs)
+    (λ c. search needs)
     returns-2
     advance-requires
-    enum-known-a
-    enum-told-2
-    same-length-3
+    (λ c. search needs)
+    (λ c. search needs)
+    (λ c. search needs)
     returns-3
     expression-requires-2
-    enum-known-right
-    enum-told-3
-    same-length-4
+    (λ c. search needs)
+    (λ c. search needs)
+    (λ c. search needs)
     returns-4
     add-larger
-    larger-requires
-    operation-requires
+    (λ c κs. search needs)
+    (λ c κs. search needs)
     emitted-requires
     same-length-5
     returns-5)

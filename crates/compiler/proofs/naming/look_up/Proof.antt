@@ -4,12 +4,9 @@ use borrow.Author.Needs.{needs}
 use Rattle.compiler.proofs.naming.look_up.Statement.{statement}
 use Rattle.compiler.proofs.naming.look_up.Tie as tie
 
-look-up-requires : tie.Need-look-up-requires
-look-up-requires c κs = search needs
-
 returns : tie.Need-returns
 unfolding cell-of
 returns c = c .look-up .ensures
 
 pub look-up-spec : {M : Type 1} → statement M
-look-up-spec = tie.close (tie.spec look-up-requires returns)
+look-up-spec = tie.close (tie.spec (λ c κs. search needs) returns)

@@ -4,15 +4,6 @@ use borrow.Author.Needs.{needs}
 use Rattle.compiler.proofs.naming.noted.Statement.{statement}
 use Rattle.compiler.proofs.naming.noted.Tie as tie
 
-enum-told : tie.Need-enum-told
-enum-told c = search needs
-
-enum-told-2 : tie.Need-enum-told-2
-enum-told-2 c = search needs
-
-faulted-requires : tie.Need-faulted-requires
-faulted-requires c κs = search needs
-
 returns : tie.Need-returns
 unfolding noted-walk
 returns c = rw (c .enum-told .given .1)
@@ -22,4 +13,4 @@ unfolding noted-walk
 returns-2 c = rw (c .before .enum-told2 .given .1) (c .faulted .ensures)
 
 pub noted-spec : {M : Type 1} → statement M
-noted-spec = tie.close (tie.spec enum-told enum-told-2 faulted-requires returns returns-2)
+noted-spec = tie.close (tie.spec (λ c. search needs) (λ c. search needs) (λ c κs. search needs) returns returns-2)

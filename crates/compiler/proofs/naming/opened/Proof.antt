@@ -4,15 +4,9 @@ use borrow.Author.Needs.{needs}
 use Rattle.compiler.proofs.naming.opened.Statement.{statement}
 use Rattle.compiler.proofs.naming.opened.Tie as tie
 
-open-requires : tie.Need-open-requires
-open-requires c κs = search needs
-
-scoped-requires : tie.Need-scoped-requires
-scoped-requires c κs = search needs
-
 returns : tie.Need-returns
 unfolding opened-walk
 returns c = rw (c .before .«open» .ensures) at (c .scoped .ensures)
 
 pub opened-spec : {M : Type 1} → statement M
-opened-spec = tie.close (tie.spec open-requires scoped-requires returns)
+opened-spec = tie.close (tie.spec (λ c κs. search needs) (λ c κs. search needs) returns)

@@ -7,15 +7,6 @@ use borrow.Author.Needs.{needs}
 use Rattle.compiler.proofs.naming.operand.Statement.{statement}
 use Rattle.compiler.proofs.naming.operand.Tie as tie
 
-enum-known-c : tie.Need-enum-known-c
-enum-known-c c = search needs
-
-operand-requires : tie.Need-operand-requires
-operand-requires c κs = search needs
-
-enum-told : tie.Need-enum-told
-enum-told c = search needs
-
 returns : tie.Need-returns
 unfolding cell-number
 returns c = let f : SFits w32 (c .operand .result) = search needs in rw (c .before .before .c .given .1, toZ-ofZ f) (c .operand .ensures)
@@ -25,4 +16,4 @@ unfolding cell-number
 returns-2 c = rw (c .enum-told .given .1)
 
 pub operand-spec : {M : Type 1} → statement M
-operand-spec = tie.close (tie.spec enum-known-c operand-requires enum-told returns returns-2)
+operand-spec = tie.close (tie.spec (λ c. search needs) (λ c κs. search needs) (λ c. search needs) returns returns-2)

@@ -9,20 +9,8 @@ use Rattle.compiler.proofs.Names.{noted-is}
 use Rattle.compiler.proofs.naming.used.Statement.{statement}
 use Rattle.compiler.proofs.naming.used.Tie as tie
 
-look-up-requires : tie.Need-look-up-requires
-look-up-requires c κs = search needs
-
-noted-requires : tie.Need-noted-requires
-noted-requires c κs = search needs
-
-operand-requires : tie.Need-operand-requires
-operand-requires c κs = search needs
-
 emitted-requires : tie.Need-emitted-requires
 emitted-requires c κs = rw (c .before .noted .ensures, noted-is) (omega arith)
-
-same-length : tie.Need-same-length
-same-length c = search needs
 
 returns : tie.Need-returns
 returns c =
@@ -35,9 +23,9 @@ pub used-spec : {M : Type 1} → statement M
 used-spec =
     tie.close
     (tie.spec
-    look-up-requires
-    noted-requires
-    operand-requires
+    (λ c κs. search needs)
+    (λ c κs. search needs)
+    (λ c κs. search needs)
     emitted-requires
-    same-length
+    (λ c. search needs)
     returns)

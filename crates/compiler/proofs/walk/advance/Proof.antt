@@ -6,24 +6,9 @@ use borrow.Author.Needs.{needs}
 use Rattle.compiler.proofs.walk.advance.Statement.{statement}
 use Rattle.compiler.proofs.walk.advance.Tie as tie
 
-next-requires : tie.Need-next-requires
-next-requires c κs = search needs
-
-enum-known-found : tie.Need-enum-known-found
-enum-known-found c = search needs
-
-enum-told : tie.Need-enum-told
-enum-told c = search needs
-
-refused-requires : tie.Need-refused-requires
-refused-requires c κs = search needs
-
 returns : tie.Need-returns
 unfolding Advances passed-on
 returns c = rw (c .refused .ensures, c .before .enum-told .given .1) (sym (c .before .enum-told .given .1) ∙ c .before .before .before .next .ensures)
-
-moved-requires : tie.Need-moved-requires
-moved-requires c κs = search needs
 
 returns-2 : tie.Need-returns-2
 unfolding Advances moved-to
@@ -36,10 +21,10 @@ pub advance-spec : {M : Type 1} → statement M
 advance-spec =
     tie.close
     (tie.spec
-    next-requires
-    enum-known-found
-    enum-told
-    refused-requires
+    (λ c κs. search needs)
+    (λ c. search needs)
+    (λ c. search needs)
+    (λ c κs. search needs)
     returns
-    moved-requires
+    (λ c κs. search needs)
     returns-2)

@@ -6,12 +6,6 @@ use borrow.Author.Needs.{needs}
 use Rattle.compiler.proofs.walk.expect.Statement.{statement}
 use Rattle.compiler.proofs.walk.expect.Tie as tie
 
-fixed-ahead-requires : tie.Need-fixed-ahead-requires
-fixed-ahead-requires c κs = search needs
-
-advance-requires : tie.Need-advance-requires
-advance-requires c κs = search needs
-
 returns : tie.Need-returns
 unfolding Expects
 returns c = inl (sym (c .before .before .fixed-ahead .ensures) ∙ c .before .if1 .taken, c .advance .ensures)
@@ -21,4 +15,4 @@ unfolding Expects
 returns-2 c = inr ((λ h. c .before .if1 .left (c .before .before .fixed-ahead .ensures ∙ h)), refl)
 
 pub expect-spec : {M : Type 1} → statement M
-expect-spec = tie.close (tie.spec fixed-ahead-requires advance-requires returns returns-2)
+expect-spec = tie.close (tie.spec (λ c κs. search needs) (λ c κs. search needs) returns returns-2)

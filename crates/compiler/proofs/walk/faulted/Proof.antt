@@ -4,19 +4,13 @@ use borrow.Author.Needs.{needs}
 use Rattle.compiler.proofs.walk.faulted.Statement.{statement}
 use Rattle.compiler.proofs.walk.faulted.Tie as tie
 
-enum-told : tie.Need-enum-told
-enum-told c = search needs
-
 returns : tie.Need-returns
 unfolding faulted-walk first-fault
 returns c = rw (c .enum-told .given .1)
-
-enum-told-2 : tie.Need-enum-told-2
-enum-told-2 c = search needs
 
 returns-2 : tie.Need-returns-2
 unfolding faulted-walk first-fault
 returns-2 c = rw (c .before .before .enum-told2 .given .1)
 
 pub faulted-spec : {M : Type 1} → statement M
-faulted-spec = tie.close (tie.spec enum-told returns enum-told-2 returns-2)
+faulted-spec = tie.close (tie.spec (λ c. search needs) returns (λ c. search needs) returns-2)

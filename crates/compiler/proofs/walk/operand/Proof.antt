@@ -5,9 +5,6 @@ use borrow.Author.Needs.{needs}
 use Rattle.compiler.proofs.walk.operand.Statement.{statement}
 use Rattle.compiler.proofs.walk.operand.Tie as tie
 
-cast-result : tie.Need-cast-result
-cast-result c = search needs
-
 returns : tie.Need-returns
 unfolding operand-of
 returns c = rw (lt-ltb _ _ (c .if1 .taken))
@@ -17,4 +14,4 @@ unfolding operand-of
 returns-2 c = rw (le-ltb _ _ (c .if1 .left))
 
 pub operand-spec : {M : Type 1} → statement M
-operand-spec = tie.close (tie.spec cast-result returns returns-2)
+operand-spec = tie.close (tie.spec (λ c. search needs) returns returns-2)

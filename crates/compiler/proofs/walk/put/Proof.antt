@@ -9,29 +9,8 @@ use Rattle.compiler.specs.Tables.{put}
 use Rattle.compiler.proofs.walk.put.Statement.{statement}
 use Rattle.compiler.proofs.walk.put.Tie as tie
 
-mul-operation : tie.Need-mul-operation
-mul-operation c = search needs
-
-mul-operation-2 : tie.Need-mul-operation-2
-mul-operation-2 c = search needs
-
-slice-set-from-operation : tie.Need-slice-set-from-operation
-slice-set-from-operation c = search needs
-
-mul-operand : tie.Need-mul-operand
-mul-operand c = search needs
-
-add-operand : tie.Need-add-operand
-add-operand c = search needs
-
-mul-operand-2 : tie.Need-mul-operand-2
-mul-operand-2 c = search needs
-
 slice-set-from-operand : tie.Need-slice-set-from-operand
 slice-set-from-operand c = rw length-set (omega arith)
-
-same-length : tie.Need-same-length
-same-length c = search needs
 
 returns : tie.Need-returns
 unfolding put
@@ -45,13 +24,13 @@ pub put-spec : {M : Type 1} → statement M
 put-spec =
     tie.close
     (tie.spec
-    mul-operation
-    mul-operation-2
-    slice-set-from-operation
-    mul-operand
-    add-operand
-    mul-operand-2
+    (λ c. search needs)
+    (λ c. search needs)
+    (λ c. search needs)
+    (λ c. search needs)
+    (λ c. search needs)
+    (λ c. search needs)
     slice-set-from-operand
-    same-length
+    (λ c. search needs)
     returns
     returns-2)

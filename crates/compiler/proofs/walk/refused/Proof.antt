@@ -4,12 +4,6 @@ use borrow.Author.Needs.{needs}
 use Rattle.compiler.proofs.walk.refused.Statement.{statement}
 use Rattle.compiler.proofs.walk.refused.Tie as tie
 
-enum-known-found : tie.Need-enum-known-found
-enum-known-found c = search needs
-
-enum-known-found-2 : tie.Need-enum-known-found-2
-enum-known-found-2 c = search needs
-
 returns : tie.Need-returns
 unfolding passed-on
 returns c = rw (c .before .found .given .1)
@@ -19,4 +13,4 @@ unfolding passed-on
 returns-2 c = rw (c .before .found2 .given .1)
 
 pub refused-spec : {M : Type 1} → statement M
-refused-spec = tie.close (tie.spec enum-known-found enum-known-found-2 returns returns-2)
+refused-spec = tie.close (tie.spec (λ c. search needs) (λ c. search needs) returns returns-2)

@@ -5,12 +5,9 @@ use borrow.Author.Needs.{needs}
 use Rattle.compiler.proofs.walk.skipped.Statement.{statement}
 use Rattle.compiler.proofs.walk.skipped.Tie as tie
 
-add-t5 : tie.Need-add-t5
-add-t5 c = search needs
-
 returns : tie.Need-returns
 unfolding one-more
 returns c = refl
 
 pub skipped-spec : {M : Type 1} → statement M
-skipped-spec = tie.close (tie.spec add-t5 returns)
+skipped-spec = tie.close (tie.spec (λ c. search needs) returns)

@@ -14,35 +14,14 @@ cast-x c = widens (c .fits .a)
 cast-y : tie.Need-cast-y
 cast-y c = widens (c .fits .b)
 
-enum-told : tie.Need-enum-told
-enum-told c = search needs
-
 add-in-range : tie.Need-add-in-range
 add-in-range c = rw (back (c .before .before .fits .a), back (c .before .before .fits .b)) (wide-add (c .before .before .fits .a) (c .before .before .fits .b))
-
-in-range-requires : tie.Need-in-range-requires
-in-range-requires c κs = search needs
-
-enum-told-2 : tie.Need-enum-told-2
-enum-told-2 c = search needs
 
 sub-in-range : tie.Need-sub-in-range
 sub-in-range c = rw (back (c .before .before .fits .a), back (c .before .before .fits .b)) (wide-sub (c .before .before .fits .a) (c .before .before .fits .b))
 
-in-range-requires-2 : tie.Need-in-range-requires-2
-in-range-requires-2 c κs = search needs
-
-enum-told-3 : tie.Need-enum-told-3
-enum-told-3 c = search needs
-
 mul-in-range : tie.Need-mul-in-range
 mul-in-range c = rw (back (c .before .before .fits .a), back (c .before .before .fits .b)) (wide-mul (c .before .before .fits .a) (c .before .before .fits .b))
-
-in-range-requires-3 : tie.Need-in-range-requires-3
-in-range-requires-3 c κs = search needs
-
-enum-told-4 : tie.Need-enum-told-4
-enum-told-4 c = search needs
 
 returns : tie.Need-returns
 unfolding calculate
@@ -50,27 +29,6 @@ returns c = rw (c .before .enum-told4 .given .1, false-is (c .before .before .be
 
 div-in-range : tie.Need-div-in-range
 div-in-range c = (rw (toZ-ofZ (c .before .before .before .fits .b)) (bits-pos (c .before .before .before .args .b) (c .before .before .before .fits .b) (c .if1 .left)), rw (back (c .before .before .before .fits .a), back (c .before .before .before .fits .b)) (wide-quot (c .before .before .before .fits .a) (c .before .before .before .fits .b)))
-
-in-range-requires-4 : tie.Need-in-range-requires-4
-in-range-requires-4 c κs = search needs
-
-enum-told-5 : tie.Need-enum-told-5
-enum-told-5 c = search needs
-
-truth-requires : tie.Need-truth-requires
-truth-requires c κs = search needs
-
-enum-told-6 : tie.Need-enum-told-6
-enum-told-6 c = search needs
-
-truth-requires-2 : tie.Need-truth-requires-2
-truth-requires-2 c κs = search needs
-
-enum-told-7 : tie.Need-enum-told-7
-enum-told-7 c = search needs
-
-truth-requires-3 : tie.Need-truth-requires-3
-truth-requires-3 c κs = search needs
 
 returns-2 : tie.Need-returns-2
 unfolding calculate
@@ -106,25 +64,25 @@ calculate-spec =
     (tie.spec
     cast-x
     cast-y
-    enum-told
+    (λ c. search needs)
     add-in-range
-    in-range-requires
-    enum-told-2
+    (λ c κs. search needs)
+    (λ c. search needs)
     sub-in-range
-    in-range-requires-2
-    enum-told-3
+    (λ c κs. search needs)
+    (λ c. search needs)
     mul-in-range
-    in-range-requires-3
-    enum-told-4
+    (λ c κs. search needs)
+    (λ c. search needs)
     returns
     div-in-range
-    in-range-requires-4
-    enum-told-5
-    truth-requires
-    enum-told-6
-    truth-requires-2
-    enum-told-7
-    truth-requires-3
+    (λ c κs. search needs)
+    (λ c. search needs)
+    (λ c κs. search needs)
+    (λ c. search needs)
+    (λ c κs. search needs)
+    (λ c. search needs)
+    (λ c κs. search needs)
     returns-2
     returns-3
     returns-4

@@ -28,9 +28,6 @@ returns c = rw (back (c .before .fits .v), +ℤ-idl (negℤ (c .before .args .v)
 cast-result-3 : tie.Need-cast-result-3
 cast-result-3 c = rw (toZ-ofZ (c .before .fits .v)) (not-below (c .before .args .v) (rw (toZ-ofZ (c .before .fits .v)) at (c .if1 .left)), fits-natAbs tt (c .before .fits .v))
 
-returns-2 : tie.Need-returns-2
-returns-2 c = search needs
-
 pub distance-spec : {M : Type 1} → statement M
 distance-spec =
-    tie.close (tie.spec cast-result sub-result cast-result-2 returns cast-result-3 returns-2)
+    tie.close (tie.spec cast-result sub-result cast-result-2 returns cast-result-3 (λ c. search needs))

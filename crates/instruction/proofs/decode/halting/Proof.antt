@@ -5,9 +5,6 @@ use borrow.Author.Needs.{needs}
 use Rattle.instruction.proofs.decode.halting.Statement.{statement}
 use Rattle.instruction.proofs.decode.halting.Tie as tie
 
-cast-t4 : tie.Need-cast-t4
-cast-t4 c = search needs
-
 returns : tie.Need-returns
 unfolding halting
 returns c = rw (lt-ltb (c .before .args .n) 2 (c .if1 .taken))
@@ -17,4 +14,4 @@ unfolding halting
 returns-2 c = rw (le-ltb (c .before .args .n) 2 (c .if1 .left))
 
 pub halting-spec : {M : Type 1} → statement M
-halting-spec = tie.close (tie.spec cast-t4 returns returns-2)
+halting-spec = tie.close (tie.spec (λ c. search needs) returns returns-2)

@@ -16,32 +16,11 @@ use Rattle.machine.proofs.decimal.put_decimal.Tie as tie
 dist : (c : tie.After-distance) → c .distance .result ≡ natAbs (c .before .before .args .v)
 dist c = rw (toZ-ofZ (c .before .before .fits .v)) at (c .distance .ensures)
 
-distance-requires : tie.Need-distance-requires
-distance-requires c κs = search needs
-
-put-digits-requires : tie.Need-put-digits-requires
-put-digits-requires c κs = search needs
-
-sub-buffer : tie.Need-sub-buffer
-sub-buffer c = search needs
-
-slice-write-buffer : tie.Need-slice-write-buffer
-slice-write-buffer c = search needs
-
-sub-result : tie.Need-sub-result
-sub-result c = search needs
-
-same-length : tie.Need-same-length
-same-length c = search needs
-
 returns : tie.Need-returns
 returns c = let b = c .before .before .before .put-digits .last .1 .0 in
     let l : length (c .before .before .before .put-digits .last .1 .0) ≡ 11 = c .before .before .before .put-digits .kept .1 .0 ∙ c .before .before .before .before .before .before .before .pre in
     let e = c .before .before .before .put-digits .ensures in
     (omega arith, drop-front b (c .before .before .before .put-digits .result) 45 (e .0) (omega arith) ∙ (ap (λ (t : List ℕ). 45 ∷ t) (e .1 .1) ∙ (rw (dist (c .before .before .before .before .before)) (sym (decimal-below (c .before .before .before .before .before .before .before .args .v) (rw (toZ-ofZ (c .before .before .before .before .before .before .before .fits .v)) at (c .if1 .taken)))))))
-
-same-length-2 : tie.Need-same-length-2
-same-length-2 c = search needs
 
 returns-2 : tie.Need-returns-2
 returns-2 c = (c .before .before .before .put-digits .ensures .1 .0, c .before .before .before .put-digits .ensures .1 .1 ∙ rw (dist (c .before .before .before .before .before)) (sym (decimal-above (c .before .before .before .before .before .before .before .args .v) (rw (toZ-ofZ (c .before .before .before .before .before .before .before .fits .v)) at (c .if1 .left)))))
@@ -50,12 +29,12 @@ pub put-decimal-spec : {M : Type 1} → statement M
 put-decimal-spec =
     tie.close
     (tie.spec
-    distance-requires
-    put-digits-requires
-    sub-buffer
-    slice-write-buffer
-    sub-result
-    same-length
+    (λ c κs. search needs)
+    (λ c κs. search needs)
+    (λ c. search needs)
+    (λ c. search needs)
+    (λ c. search needs)
+    (λ c. search needs)
     returns
-    same-length-2
+    (λ c. search needs)
     returns-2)

@@ -20,38 +20,8 @@ returns : tie.Need-returns
 unfolding does
 returns c = λ lent before g. stops g (does lent print-int) 8 (rw (live-none (c .before .before .args .s .depth) (now (c .before .before .args .stack)) (c .if1 .taken)))
 
-mul-put-decimal : tie.Need-mul-put-decimal
-mul-put-decimal c = search needs
-
-shared-slice-copy-out-put-decimal : tie.Need-shared-slice-copy-out-put-decimal
-shared-slice-copy-out-put-decimal c = search needs
-
-slice-aggregate-put-decimal : tie.Need-slice-aggregate-put-decimal
-slice-aggregate-put-decimal c = search needs
-
-put-decimal-requires : tie.Need-put-decimal-requires
-put-decimal-requires c κs = search needs
-
-moved-requires : tie.Need-moved-requires
-moved-requires c κs = search needs
-
-sub-write : tie.Need-sub-write
-sub-write c = search needs
-
-part-write-start : tie.Need-part-write-start
-part-write-start c = search needs
-
-part-write-end : tie.Need-part-write-end
-part-write-end c = search needs
-
-slice-aggregate-write : tie.Need-slice-aggregate-write
-slice-aggregate-write c = search needs
-
 write-requires : tie.Need-write-requires
 write-requires c κs = rw (c .before .before .before .before .moved .ensures) (record { within = c .before .before .before .before .before .before .before .before .before .before .before .pre .1 .within; next = c .before .before .before .before .before .before .before .before .before .before .before .pre .1 .next })
-
-same-length : tie.Need-same-length
-same-length c = search needs
 
 returns-2 : tie.Need-returns-2
 unfolding does
@@ -67,15 +37,15 @@ print-int-spec =
     tie.close
     (tie.spec
     returns
-    mul-put-decimal
-    shared-slice-copy-out-put-decimal
-    slice-aggregate-put-decimal
-    put-decimal-requires
-    moved-requires
-    sub-write
-    part-write-start
-    part-write-end
-    slice-aggregate-write
+    (λ c. search needs)
+    (λ c. search needs)
+    (λ c. search needs)
+    (λ c κs. search needs)
+    (λ c κs. search needs)
+    (λ c. search needs)
+    (λ c. search needs)
+    (λ c. search needs)
+    (λ c. search needs)
     write-requires
-    same-length
+    (λ c. search needs)
     returns-2)

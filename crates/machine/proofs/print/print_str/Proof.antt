@@ -8,27 +8,9 @@ use Rattle.machine.proofs.Strings.{no-string, the-string}
 use Rattle.machine.proofs.print.print_str.Statement.{statement}
 use Rattle.machine.proofs.print.print_str.Tie as tie
 
-run-end-requires : tie.Need-run-end-requires
-run-end-requires c κs = search needs
-
 returns : tie.Need-returns
 unfolding quoted such
 returns c = λ lent cells before g. stops g _ 8 (rw (← no-string (now (c .before .before .before .before .before .args .text)) (c .before .before .before .before .before .args .q) (c .before .run-end .result) (c .before .run-end .ensures) (c .if1 .taken)))
-
-sub-write : tie.Need-sub-write
-sub-write c = search needs
-
-part-write-start : tie.Need-part-write-start
-part-write-start c = search needs
-
-part-write-end : tie.Need-part-write-end
-part-write-end c = search needs
-
-write-requires : tie.Need-write-requires
-write-requires c κs = search needs
-
-same-length : tie.Need-same-length
-same-length c = search needs
 
 returns-2 : tie.Need-returns-2
 unfolding quoted such
@@ -38,11 +20,11 @@ pub print-str-spec : {M : Type 1} → statement M
 print-str-spec =
     tie.close
     (tie.spec
-    run-end-requires
+    (λ c κs. search needs)
     returns
-    sub-write
-    part-write-start
-    part-write-end
-    write-requires
-    same-length
+    (λ c. search needs)
+    (λ c. search needs)
+    (λ c. search needs)
+    (λ c κs. search needs)
+    (λ c. search needs)
     returns-2)

@@ -25,27 +25,12 @@ unfolding does jumped
 returns-2 c = λ lent e room before g.
     stops g (does lent (jump-if-false (c .before .before .args .a))) 8 (rw (live-top (c .before .before .args .s .depth) (now (c .before .before .args .stack)) (c .before .if1 .left), ← e, le-ltb (c .before .before .args .a) (c .before .before .args .count) (c .if2 .taken)))
 
-mul-if3 : tie.Need-mul-if3
-mul-if3 c = search needs
-
-shared-slice-copy-out-if3 : tie.Need-shared-slice-copy-out-if3
-shared-slice-copy-out-if3 c = search needs
-
-moved-requires : tie.Need-moved-requires
-moved-requires c κs = search needs
-
 returns-3 : tie.Need-returns-3
 unfolding does jumped
 returns-3 c = λ lent e room before g.
     let cells = now (c .before .before .before .before .before .args .stack) in
     rw (c .moved .ensures) (goes g (does lent (jump-if-false (c .before .before .before .before .before .args .a))) (c .before .before .before .before .before .args .a) (c .before .before .before .before .before .args .s .depth - 1) cells (omega arith) refl
     (rw (live-top (c .before .before .before .before .before .args .s .depth) cells (c .before .before .before .before .if1 .left), ← e, lt-ltb (c .before .before .before .before .before .args .a) (c .before .before .before .before .before .args .count) (c .before .before .before .if2 .left), false-is (getD cells (c .before .before .before .before .before .args .s .depth - 1) (pos 0)) (record { sfits = c .before .before .if32 .given }) (c .before .if3 .taken))))
-
-add-moved : tie.Need-add-moved
-add-moved c = search needs
-
-moved-requires-2 : tie.Need-moved-requires-2
-moved-requires-2 c κs = search needs
 
 returns-4 : tie.Need-returns-4
 unfolding does jumped
@@ -60,10 +45,10 @@ jump-if-false-spec =
     (tie.spec
     returns
     returns-2
-    mul-if3
-    shared-slice-copy-out-if3
-    moved-requires
+    (λ c. search needs)
+    (λ c. search needs)
+    (λ c κs. search needs)
     returns-3
-    add-moved
-    moved-requires-2
+    (λ c. search needs)
+    (λ c κs. search needs)
     returns-4)

@@ -15,18 +15,6 @@ returns : tie.Need-returns
 unfolding does
 returns c = λ lent room before g. stops g (does lent (load-stack (c .before .before .args .k))) 8 (rw (length-live (c .before .before .args .s .depth) (now (c .before .before .args .stack)), le-ltb (c .before .before .args .k) (c .before .before .args .s .depth) (c .if1 .taken)))
 
-mul-v : tie.Need-mul-v
-mul-v c = search needs
-
-slice-copy-out-v : tie.Need-slice-copy-out-v
-slice-copy-out-v c = search needs
-
-push-int-requires : tie.Need-push-int-requires
-push-int-requires c κs = search needs
-
-same-length : tie.Need-same-length
-same-length c = search needs
-
 returns-2 : tie.Need-returns-2
 unfolding does
 returns-2 c = λ lent room before g.
@@ -34,4 +22,4 @@ returns-2 c = λ lent room before g.
     (rw (toZ-ofZ {w = w32} (record { sfits = c .before .before .before .v .given }), length-live (c .before .before .before .before .before .before .args .s .depth) (now (c .before .before .before .before .before .before .args .stack)), lt-ltb (c .before .before .before .before .before .before .args .k) (c .before .before .before .before .before .before .args .s .depth) (c .before .before .before .before .if1 .left), peek-live (c .before .before .before .before .before .before .args .s .depth) (c .before .before .before .before .before .before .args .k) (now (c .before .before .before .before .before .before .args .stack)) (c .before .before .before .before .if1 .left)))
 
 pub load-stack-spec : {M : Type 1} → statement M
-load-stack-spec = tie.close (tie.spec returns mul-v slice-copy-out-v push-int-requires same-length returns-2)
+load-stack-spec = tie.close (tie.spec returns (λ c. search needs) (λ c. search needs) (λ c κs. search needs) (λ c. search needs) returns-2)

@@ -19,12 +19,6 @@ returns : tie.Need-returns
 unfolding does
 returns c = λ lent room before g. stops g (does lent negate) 8 (rw (live-none (c .before .args .s .depth) (now (c .before .args .stack)) (c .if1 .taken)))
 
-mul-v : tie.Need-mul-v
-mul-v c = search needs
-
-slice-copy-out-v : tie.Need-slice-copy-out-v
-slice-copy-out-v c = search needs
-
 -- the top of the stack, a number of 32 bits
 abbrev top : (c : tie.After-v) → ℤ
 top c = getD (now (c .before .before .args .stack)) (c .before .before .args .s .depth - 1) (pos 0)
@@ -38,15 +32,6 @@ cast-in-range c = widens (small (c .before))
 sub-in-range : tie.Need-sub-in-range
 sub-in-range c = rw (back (small (c .before)), +ℤ-idl (negℤ (top (c .before)))) (wide-negate (small (c .before)))
 
-in-range-requires : tie.Need-in-range-requires
-in-range-requires c κs = search needs
-
-put-requires : tie.Need-put-requires
-put-requires c κs = search needs
-
-same-length : tie.Need-same-length
-same-length c = search needs
-
 returns-2 : tie.Need-returns-2
 unfolding does
 returns-2 c = λ lent room before g.
@@ -59,11 +44,11 @@ negate-spec =
     tie.close
     (tie.spec
     returns
-    mul-v
-    slice-copy-out-v
+    (λ c. search needs)
+    (λ c. search needs)
     cast-in-range
     sub-in-range
-    in-range-requires
-    put-requires
-    same-length
+    (λ c κs. search needs)
+    (λ c κs. search needs)
+    (λ c. search needs)
     returns-2)

@@ -19,21 +19,6 @@ returns : tie.Need-returns
 unfolding does
 returns c = λ lent room before g. stops g (does lent not) 8 (rw (live-none (c .before .args .s .depth) (now (c .before .args .stack)) (c .if1 .taken)))
 
-mul-v : tie.Need-mul-v
-mul-v c = search needs
-
-slice-copy-out-v : tie.Need-slice-copy-out-v
-slice-copy-out-v c = search needs
-
-truth-requires : tie.Need-truth-requires
-truth-requires c κs = search needs
-
-put-requires : tie.Need-put-requires
-put-requires c κs = search needs
-
-same-length : tie.Need-same-length
-same-length c = search needs
-
 returns-2 : tie.Need-returns-2
 unfolding does resulting negation
 returns-2 c = λ lent room before g.
@@ -43,4 +28,4 @@ returns-2 c = λ lent room before g.
 pub not-spec : {M : Type 1} → statement M
 not-spec =
     tie.close
-    (tie.spec returns mul-v slice-copy-out-v truth-requires put-requires same-length returns-2)
+    (tie.spec returns (λ c. search needs) (λ c. search needs) (λ c κs. search needs) (λ c κs. search needs) (λ c. search needs) returns-2)

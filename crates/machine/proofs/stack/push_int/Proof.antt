@@ -11,15 +11,9 @@ returns : tie.Need-returns
 unfolding does pushed
 returns c = λ lent room before g. stops g (does lent (push-int (c .before .args .v))) 6 (rw (full g (c .if1 .taken)))
 
-put-requires : tie.Need-put-requires
-put-requires c κs = search needs
-
-same-length : tie.Need-same-length
-same-length c = search needs
-
 returns-2 : tie.Need-returns-2
 unfolding does pushed resulting
 returns-2 c = λ lent room before g. also (c .before .put .ensures lent room before g) (rw (toZ-ofZ (c .before .before .before .before .fits .v), free g (c .before .before .before .if1 .left)))
 
 pub push-int-spec : {M : Type 1} → statement M
-push-int-spec = tie.close (tie.spec returns put-requires same-length returns-2)
+push-int-spec = tie.close (tie.spec returns (λ c κs. search needs) (λ c. search needs) returns-2)

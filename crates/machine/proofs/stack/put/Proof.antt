@@ -9,30 +9,6 @@ use Rattle.machine.proofs.Steps.{stops, puts}
 use Rattle.machine.proofs.stack.put.Statement.{statement}
 use Rattle.machine.proofs.stack.put.Tie as tie
 
-enum-known-n : tie.Need-enum-known-n
-enum-known-n c = search needs
-
-mul-v : tie.Need-mul-v
-mul-v c = search needs
-
-slice-set-from-v : tie.Need-slice-set-from-v
-slice-set-from-v c = search needs
-
-add-moved : tie.Need-add-moved
-add-moved c = search needs
-
-add-moved-2 : tie.Need-add-moved-2
-add-moved-2 c = search needs
-
-moved-requires : tie.Need-moved-requires
-moved-requires c κs = search needs
-
-enum-known-n-2 : tie.Need-enum-known-n-2
-enum-known-n-2 c = search needs
-
-same-length : tie.Need-same-length
-same-length c = search needs
-
 returns : tie.Need-returns
 returns c = λ lent room before g.
     let v = c .before .before .before .n .given .0 .0 in
@@ -47,13 +23,13 @@ pub put-spec : {M : Type 1} → statement M
 put-spec =
     tie.close
     (tie.spec
-    enum-known-n
-    mul-v
-    slice-set-from-v
-    add-moved
-    add-moved-2
-    moved-requires
-    enum-known-n-2
-    same-length
+    (λ c. search needs)
+    (λ c. search needs)
+    (λ c. search needs)
+    (λ c. search needs)
+    (λ c. search needs)
+    (λ c κs. search needs)
+    (λ c. search needs)
+    (λ c. search needs)
     returns
     returns-2)

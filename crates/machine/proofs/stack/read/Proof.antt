@@ -18,21 +18,6 @@ returns-2 : tie.Need-returns-2
 unfolding does taken reading
 returns-2 c = λ lent e room before g. stops g (does lent read) 3 (rw (free g (c .before .if1 .left), ← e, no-more (now (c .before .before .args .readings)) (c .before .before .args .s .used) (c .if2 .taken)))
 
-add-t7 : tie.Need-add-t7
-add-t7 c = search needs
-
-mul-t7 : tie.Need-mul-t7
-mul-t7 c = search needs
-
-shared-slice-copy-out-t12 : tie.Need-shared-slice-copy-out-t12
-shared-slice-copy-out-t12 c = search needs
-
-put-requires : tie.Need-put-requires
-put-requires c κs = search needs
-
-same-length : tie.Need-same-length
-same-length c = search needs
-
 returns-3 : tie.Need-returns-3
 unfolding does taken reading one-used resulting
 returns-3 c = λ lent e room before g.
@@ -45,9 +30,9 @@ read-spec =
     (tie.spec
     returns
     returns-2
-    add-t7
-    mul-t7
-    shared-slice-copy-out-t12
-    put-requires
-    same-length
+    (λ c. search needs)
+    (λ c. search needs)
+    (λ c. search needs)
+    (λ c κs. search needs)
+    (λ c. search needs)
     returns-3)

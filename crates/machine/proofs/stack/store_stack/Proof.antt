@@ -26,27 +26,6 @@ returns-2 c = λ lent room before g.
     stops g (does lent (store-stack (c .before .before .args .k))) 8
     (rw (live-top (c .before .before .args .s .depth) (now (c .before .before .args .stack)) (c .before .if1 .left), length-live (c .before .before .args .s .depth - 1) (now (c .before .before .args .stack)), le-ltb (c .before .before .args .k) (c .before .before .args .s .depth - 1) (c .if2 .taken)))
 
-mul-stack : tie.Need-mul-stack
-mul-stack c = search needs
-
-slice-copy-out-stack : tie.Need-slice-copy-out-stack
-slice-copy-out-stack c = search needs
-
-mul-t10 : tie.Need-mul-t10
-mul-t10 c = search needs
-
-slice-set-from-stack : tie.Need-slice-set-from-stack
-slice-set-from-stack c = search needs
-
-add-moved : tie.Need-add-moved
-add-moved c = search needs
-
-moved-requires : tie.Need-moved-requires
-moved-requires c κs = search needs
-
-same-length : tie.Need-same-length
-same-length c = search needs
-
 returns-3 : tie.Need-returns-3
 unfolding does
 returns-3 c = λ lent room before g.
@@ -62,11 +41,11 @@ store-stack-spec =
     (tie.spec
     returns
     returns-2
-    mul-stack
-    slice-copy-out-stack
-    mul-t10
-    slice-set-from-stack
-    add-moved
-    moved-requires
-    same-length
+    (λ c. search needs)
+    (λ c. search needs)
+    (λ c. search needs)
+    (λ c. search needs)
+    (λ c. search needs)
+    (λ c κs. search needs)
+    (λ c. search needs)
     returns-3)

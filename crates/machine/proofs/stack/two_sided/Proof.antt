@@ -19,30 +19,6 @@ use Rattle.machine.proofs.stack.two_sided.Tie as tie
 returns : tie.Need-returns
 returns c = λ lent room before g. stops g (does lent (two-sided (as-two-sided (c .before .args .k)))) 8 (too-few lent _ (c .before .args .s .depth) _ (now (c .before .args .stack)) _ (c .if1 .taken))
 
-mul-a : tie.Need-mul-a
-mul-a c = search needs
-
-slice-copy-out-a : tie.Need-slice-copy-out-a
-slice-copy-out-a c = search needs
-
-sub-b : tie.Need-sub-b
-sub-b c = search needs
-
-mul-b : tie.Need-mul-b
-mul-b c = search needs
-
-slice-copy-out-b : tie.Need-slice-copy-out-b
-slice-copy-out-b c = search needs
-
-calculate-requires : tie.Need-calculate-requires
-calculate-requires c κs = search needs
-
-put-requires : tie.Need-put-requires
-put-requires c κs = search needs
-
-same-length : tie.Need-same-length
-same-length c = search needs
-
 returns-2 : tie.Need-returns-2
 unfolding does
 returns-2 c = λ lent room before g.
@@ -58,12 +34,12 @@ two-sided-spec =
     tie.close
     (tie.spec
     returns
-    mul-a
-    slice-copy-out-a
-    sub-b
-    mul-b
-    slice-copy-out-b
-    calculate-requires
-    put-requires
-    same-length
+    (λ c. search needs)
+    (λ c. search needs)
+    (λ c. search needs)
+    (λ c. search needs)
+    (λ c. search needs)
+    (λ c κs. search needs)
+    (λ c κs. search needs)
+    (λ c. search needs)
     returns-2)
