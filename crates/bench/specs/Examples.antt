@@ -30,13 +30,13 @@ ran text readings budget a =
     let r = whole-run (record { text = text; table = code; readings = readings; cells = need; room = 4096 }) budget in
     runs code need (r .ending) (r .steps) (r .output)
 
-unfoldable pub judged : List ℕ → List ℤ → ℕ → Answer Accepted → Comes-to
-judged text readings budget (given a) = ran text readings budget a
-judged text readings budget (refused why p) = refusal (number why) p
+unfoldable pub weighed : List ℕ → List ℤ → ℕ → Answer Accepted → Comes-to
+weighed text readings budget (given a) = ran text readings budget a
+weighed text readings budget (refused why p) = refusal (number why) p
 
 -- what the definitions yield, with a code table of 8,192 numbers
 unfoldable pub yields : Limits → Example → Comes-to
-yields lim e = judged (e .text) (e .readings) (e .budget) (compiled lim (e .text) 8192)
+yields lim e = weighed (e .text) (e .readings) (e .budget) (compiled lim (e .text) 8192)
 
 abbrev pub expected : Example → Comes-to
 expected e = e .comes-to

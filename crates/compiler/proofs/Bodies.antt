@@ -25,7 +25,7 @@ use Rattle.compiler.specs.declared.walk.Walk.{Walk}
 use Rattle.compiler.specs.declared.walk.Gives.{Gives}
 use Rattle.compiler.specs.declared.walk.Read.{Read}
 use Rattle.compiler.specs.declared.walk.Read.the-variants.{Done, Refused}
-use Rattle.compiler.specs.Steps.{moved-to, one-more, Follows, Past, Advances, Expects, printing-number, cell-of, noted-walk, cell-number, Declares-ahead, before-body, ended-walk, ended-table, opened-walk, closed-walk, in-scope}
+use Rattle.compiler.specs.Steps.{moved-to, one-instruction, Follows, Past, Advances, Expects, printing-number, cell-of, noted-walk, cell-number, Declares-ahead, before-body, ended-walk, ended-table, opened-walk, closed-walk, in-scope}
 use Rattle.compiler.specs.Tables.{put}
 use Rattle.compiler.specs.Walks.{name-of, Lays, Ready, Reads, Reads-command, Reads-block, Reads-string, Reads-declare, Reads-read, Reads-assign}
 use Rattle.compiler.proofs.Commands.{command-way, string-way, declare-way, read-way, assign-way, guarded-way, block-way, block-so-far, quoted-printed, name-declared, name-read, assign-leads, no-becomes, guarded-leads, block-first, block-more, block-closed, block-lost, error-read, Begins, begun-leads}
@@ -68,24 +68,24 @@ module _ {k : Kind} (way : Way k (Sen Name k)) {text names names′ : List ℕ} 
 -- ---- a command that the lexeme ahead ends
 
 -- a declaration leaves it
-pub given-next : (names : List ℕ) (w z : Walk) (names′ : List ℕ) → Declares-ahead names (one-more (one-more w)) z names′ → z .next ≡ w .next
-unfolding one-more
-given-next names w z names′ d = ap (λ (v : Walk). v .next) (declared-is names (one-more (one-more w)) z names′ d)
+pub given-next : (names : List ℕ) (w z : Walk) (names′ : List ℕ) → Declares-ahead names (one-instruction (one-instruction w)) z names′ → z .next ≡ w .next
+unfolding one-instruction
+given-next names w z names′ d = ap (λ (v : Walk). v .next) (declared-is names (one-instruction (one-instruction w)) z names′ d)
 
 module _ {text names : List ℕ} {w : Walk} {allow : ℕ} (ready : Ready text names w allow) (table : List ℤ) where
-  pub printed : (line : Bool) → w .next .kind ≡ kind.Str → (r : Read) → Advances text (one-more w) 0 r → Reads-string line text names table w allow r names (put table (w .code) (printing-number line ∷ pos (w .next .place + 1) ∷ []))
-  unfolding moved-to one-more quoted-of
+  pub printed : (line : Bool) → w .next .kind ≡ kind.Str → (r : Read) → Advances text (one-instruction w) 0 r → Reads-string line text names table w allow r names (put table (w .code) (printing-number line ∷ pos (w .next .place + 1) ∷ []))
+  unfolding moved-to one-instruction quoted-of
   printed line h r a =
-      advanced (string-way line) (one-more w)
+      advanced (string-way line) (one-instruction w)
       (λ m f.
       let p = quoted-printed (ready .stands) allow line h f in
       record { what = quoted line (quoted-of text (w .next)); passed = p; laid = lays-quoted line (quoted-of text (w .next)) m refl (p .later) (ready .fine) })
       (λ why p e. lost-ahead (string-way line) allow (ready .stands) e) r a
 
   module _ (h : w .next .kind ≡ kind.Name) where
-    pub name-given : (z : Walk) (names′ : List ℕ) → Declares-ahead names (one-more (one-more w)) z names′ → (r : Read) → Advances text z 1 r →
+    pub name-given : (z : Walk) (names′ : List ℕ) → Declares-ahead names (one-instruction (one-instruction w)) z names′ → (r : Read) → Advances text z 1 r →
         Reads-declare text names table w allow r names′ (put (put table (w .code) (pos 2 ∷ pos 0 ∷ [])) (w .code + 1) (pos 4 ∷ pos (w .scope .«next_cell») ∷ []))
-    unfolding moved-to one-more
+    unfolding moved-to one-instruction
     name-given z names′ d r a =
         let same = given-next names w z names′ d in
         advanced declare-way z
@@ -94,13 +94,13 @@ module _ {text names : List ℕ} {w : Walk} {allow : ℕ} (ready : Ready text na
         record { what = declare (name-of text (w .next)); passed = p; laid = lays-declare z m (p .later) (ready .fine) d })
         (λ why p e. lost-ahead declare-way allow (ready .stands) (rw same at e)) r a
 
-    pub name-stored : let c = cell-of text names (one-more w) (w .next) in (r : Read) → Advances text (one-more (noted-walk c (one-more w) (w .next .place))) 1 r →
+    pub name-stored : let c = cell-of text names (one-instruction w) (w .next) in (r : Read) → Advances text (one-instruction (noted-walk c (one-instruction w) (w .next .place))) 1 r →
         Reads-read text names table w allow r names (put (put table (w .code) (pos 16 ∷ pos 0 ∷ [])) (w .code + 1) (pos 4 ∷ pos (cell-number c) ∷ []))
-    unfolding moved-to one-more cell-of
+    unfolding moved-to one-instruction cell-of
     name-stored r a =
-        let c = cell-of text names (one-more w) (w .next) in
-        let z = one-more (noted-walk c (one-more w) (w .next .place)) in
-        let same : z .next ≡ w .next = ap (λ (v : Walk). v .next) (noted-is c (one-more w) (w .next .place)) in
+        let c = cell-of text names (one-instruction w) (w .next) in
+        let z = one-instruction (noted-walk c (one-instruction w) (w .next .place)) in
+        let same : z .next ≡ w .next = ap (λ (v : Walk). v .next) (noted-is c (one-instruction w) (w .next .place)) in
         advanced read-way z
         (λ m f.
         let p = name-read (ready .stands) allow h (rw same at f) in
@@ -147,8 +147,8 @@ module _ {text names : List ℕ} {w : Walk} {allow : ℕ} (ready : Ready text na
     pub value-leads : Leads text (w .next) (x .next) allow (assign-way (name-of text l)) allow expression-way (assign (name-of text l))
     value-leads = assign-leads allow (name-of text l) (ready .stands) (rw named-next at (becomes-met .met))
 
-    pub assigned : {table table′ : List ℤ} {v : Walk} {g : Gives} → Got expression-way text names table x allow names table′ v g → Got (assign-way (name-of text l)) text names table w allow names (put table′ (v .code) (pos 4 ∷ pos (cell-number (cell-of text names w l)) ∷ [])) (one-more v) g
-    unfolding one-more
+    pub assigned : {table table′ : List ℤ} {v : Walk} {g : Gives} → Got expression-way text names table x allow names table′ v g → Got (assign-way (name-of text l)) text names table w allow names (put table′ (v .code) (pos 4 ∷ pos (cell-number (cell-of text names w l)) ∷ [])) (one-instruction v) g
+    unfolding one-instruction
     assigned {table} {table′} {v} {g} value =
         record {
           what = assign (name-of text l) (value .what);
@@ -174,11 +174,11 @@ module _ {text names : List ℕ} {w x : Walk} {allow : ℕ} (f : First text name
       handed-on (begun-leads (f .ready .stands) b d e (f .past .follows))
       (λ m v g p. lead (x .next) (omega (arith, f .ready .stands .order, f .past .follows .later)) (subst (λ (u : Walk). Lays text names table u m names′ table′ v g) (f .past .moved) p)) q h
 
-  pub error-done : {table : List ℤ} → fixed-number (w .next .kind) ≡ code-of ERROR → Got command-way text names table w allow names (put table (x .code) (pos 1 ∷ pos 1 ∷ [])) (one-more x) (record { need = 0 })
-  unfolding moved-to one-more
+  pub error-done : {table : List ℤ} → fixed-number (w .next .kind) ≡ code-of ERROR → Got command-way text names table w allow names (put table (x .code) (pos 1 ∷ pos 1 ∷ [])) (one-instruction x) (record { need = 0 })
+  unfolding moved-to one-instruction
   error-done {table} h =
       let p = error-read (f .ready .stands) allow h (f .past .follows) in
-      subst (λ (u : Walk). Got command-way text names table w allow names (put table (u .code) (pos 1 ∷ pos 1 ∷ [])) (one-more u) (record { need = 0 })) (sym (f .past .moved))
+      subst (λ (u : Walk). Got command-way text names table w allow names (put table (u .code) (pos 1 ∷ pos 1 ∷ [])) (one-instruction u) (record { need = 0 })) (sym (f .past .moved))
       (record { what = error; passed = p; laid = lays-error (x .next) (p .later) (f .ready .fine) })
 
 -- ---- a condition, and the lexeme before the body
@@ -207,20 +207,20 @@ module _ {again : Bool} {text names : List ℕ} {table table₁ : List ℤ} {w c
   head-small = omega (arith, ap (λ (u : Walk). u .code) (b .then .past .moved), counts-got (b .ready) (b .test) .0)
 
   -- what the body's reader may be called with
-  pub ready-headed : Ready text names (one-more x) allow
-  ready-headed = subst (λ (u : Walk). Ready text names (one-more u) allow) (sym (b .then .past .moved)) (ready-body (b .ready) (b .test .laid) (x .next) past-head (b .then .past .follows .stands))
+  pub ready-headed : Ready text names (one-instruction x) allow
+  ready-headed = subst (λ (u : Walk). Ready text names (one-instruction u) allow) (sym (b .then .past .moved)) (ready-body (b .ready) (b .test .laid) (x .next) past-head (b .then .past .follows .stands))
 
   pub body-leads : Leads text (w .next) (x .next) (suc allow) (guarded-way again) allow command-way (guarded again (b .test .what))
   body-leads = guarded-leads allow (b .test .what) (b .test .passed) again (b .then .met)
 
 -- how far the end of the body goes beyond it
 ended-code : (again : Bool) (w : Walk) → ended-walk again w .code ≤ w .code + 1
-unfolding ended-walk one-more
+unfolding ended-walk one-instruction
 ended-code true w = le-refl (w .code + 1)
 ended-code false w = omega arith
 
 ended-next : (again : Bool) (w : Walk) → ended-walk again w .next ≡ w .next
-unfolding ended-walk one-more
+unfolding ended-walk one-instruction
 ended-next true w = refl
 ended-next false w = refl
 
@@ -229,7 +229,7 @@ pub record Bodied (again : Bool) (text names : List ℕ) (table : List ℤ) (w :
   pub table₁ : List ℤ
   pub x : Walk
   pub head : Headed again text names table w allow table₁ c g x
-  pub body : Got command-way text names table₁ (one-more x) allow names₂ table₂ y h
+  pub body : Got command-way text names table₁ (one-instruction x) allow names₂ table₂ y h
 
 module _ {again : Bool} {text names names₂ : List ℕ} {table table₂ : List ℤ} {w c y : Walk} {g h : Gives} {allow : ℕ} (b : Bodied again text names table w allow c g names₂ table₂ y h) where
   pub body-small : y .code < 10000000
@@ -239,13 +239,13 @@ module _ {again : Bool} {text names names₂ : List ℕ} {table table₂ : List 
   end-small = omega (arith, body-small, ended-code again y)
 
   pub guarded-read : let u = ended-walk again y in Got (guarded-way again) text names table w (suc allow) names₂ (put (ended-table again table₂ (y .code) (w .code)) (c .code) (pos 6 ∷ pos (u .code) ∷ [])) u (record { need = max (g .need) (h .need) })
-  unfolding one-more
+  unfolding one-instruction
   guarded-read =
       let a = b .head in
       record {
         what = guarded again (a .test .what) (b .body .what);
         passed = rw (ended-next again y) (body-leads a .passes (b .body .what) (b .body .passed));
-        laid = lays-guarded again (b .x .next) (past-head a) (a .test .laid) (subst (λ (u : Walk). Lays text names (b .table₁) (one-more u) (b .body .what) names₂ table₂ y h) (a .then .past .moved) (b .body .laid));
+        laid = lays-guarded again (b .x .next) (past-head a) (a .test .laid) (subst (λ (u : Walk). Lays text names (b .table₁) (one-instruction u) (b .body .what) names₂ table₂ y h) (a .then .past .moved) (b .body .laid));
       }
 
 -- ---- the commands of a block

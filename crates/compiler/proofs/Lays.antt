@@ -22,7 +22,7 @@ use Rattle.instruction.specs.Instructions.{Instruction, halt, push-int, jump, j
 use Rattle.meaning.specs.Layout.{of-mul, of-sign, of-rel, size, code, need}
 use Rattle.compiler.specs.declared.walk.Walk.{Walk}
 use Rattle.compiler.specs.declared.walk.Gives.{Gives}
-use Rattle.compiler.specs.Steps.{moved-to, one-more, printing-number, ended-walk, ended-table, operation-number}
+use Rattle.compiler.specs.Steps.{moved-to, one-instruction, printing-number, ended-walk, ended-table, operation-number}
 use Rattle.compiler.specs.Tables.{put, emit}
 use Rattle.compiler.specs.Walks.{stand, named, scope-of, Laid, spare, Small, Fine, Lays, Ready}
 use Rattle.compiler.proofs.Emits.{emit-code, emit-one, put-before, mul-operation, sign-operation, rel-operation}
@@ -114,8 +114,8 @@ module _ {k : Kind} {text names names′ : List ℕ} {table table′ : List ℤ}
 
 -- ---- one instruction and no part
 
-pub fine-more : {names : List ℕ} {w : Walk} → Fine names w → Fine names (one-more w)
-unfolding one-more
+pub fine-more : {names : List ℕ} {w : Walk} → Fine names w → Fine names (one-instruction w)
+unfolding one-instruction
 fine-more f = record { sound = f .sound; low = f .low }
 
 -- at most two instructions are spare
@@ -135,23 +135,23 @@ quoted false q = print-string q
 
 module _ {text names : List ℕ} {table : List ℤ} {w : Walk} where
   lays-alone : {k : Kind} (x : Sen Name k) (z : Sen ℕ k) (i : Instruction) (n : ℕ) → resolve (length names / 4) x ≡ give z → size z ≡ 1 → need z ≡ n → n ≤ 1 → code (w .code) z ≡ i ∷ [] →
-      (m : Lexeme) → w .next .place < m .place → Fine names w → Lays text names table w x names (put table (w .code) (pair i [])) (moved-to (one-more w) m) (record { need = n })
-  unfolding moved-to one-more stand
+      (m : Lexeme) → w .next .place < m .place → Fine names w → Lays text names table w x names (put table (w .code) (pair i [])) (moved-to (one-instruction w) m) (record { need = n })
+  unfolding moved-to one-instruction stand
   lays-alone {k} x z i n e s d l c m h f = lays (rw e (leads-give z (stand text names w) written)) (omega (arith, few k)) (record { sound = f .sound; low = f .low }) (kept-all (w .scope .visible) names)
     where
-      written : Laid table (put table (w .code) (pair i [])) w (moved-to (one-more w) m) (record { need = n }) z
+      written : Laid table (put table (w .code) (pair i [])) w (moved-to (one-instruction w) m) (record { need = n }) z
       written = record { code = ap (λ j. w .code + j) (sym s); need = sym d; numbers = sym (ap (emit table (w .code)) c ∙ emit-one table (w .code) i) }
 
-  pub lays-literal : (n : ℕ) (m : Lexeme) → w .next .place < m .place → Fine names w → Lays text names table w (literal n) names (put table (w .code) (pos 2 ∷ pos n ∷ [])) (moved-to (one-more w) m) (record { need = 1 })
+  pub lays-literal : (n : ℕ) (m : Lexeme) → w .next .place < m .place → Fine names w → Lays text names table w (literal n) names (put table (w .code) (pos 2 ∷ pos n ∷ [])) (moved-to (one-instruction w) m) (record { need = 1 })
   unfolding resolve size need code pair
   lays-literal n = lays-alone (literal n) (literal n) (push-int (pos n)) 1 refl refl refl (le-refl 1) refl
 
-  pub lays-error : (m : Lexeme) → w .next .place < m .place → Fine names w → Lays text names table w error names (put table (w .code) (pos 1 ∷ pos 1 ∷ [])) (one-more (moved-to w m)) (record { need = 0 })
-  unfolding moved-to one-more resolve size need code pair
+  pub lays-error : (m : Lexeme) → w .next .place < m .place → Fine names w → Lays text names table w error names (put table (w .code) (pos 1 ∷ pos 1 ∷ [])) (one-instruction (moved-to w m)) (record { need = 0 })
+  unfolding moved-to one-instruction resolve size need code pair
   lays-error = lays-alone error error (halt 1) 0 refl refl refl (omega arith) refl
 
   pub lays-quoted : (line : Bool) (q : Quoted) (m : Lexeme) → q .place ≡ w .next .place + 1 → w .next .place < m .place → Fine names w →
-      Lays text names table w (quoted line q) names (put table (w .code) (printing-number line ∷ pos (w .next .place + 1) ∷ [])) (moved-to (one-more w) m) (record { need = 0 })
+      Lays text names table w (quoted line q) names (put table (w .code) (printing-number line ∷ pos (w .next .place + 1) ∷ [])) (moved-to (one-instruction w) m) (record { need = 0 })
   unfolding resolve size need code pair quoted printing-number
   lays-quoted true q m p = rw (← p) (lays-alone (print-line q) (print-line q) (print-str-ln (q .place)) 0 refl refl refl (omega arith) refl m)
   lays-quoted false q m p = rw (← p) (lays-alone (print-string q) (print-string q) (print-str (q .place)) 0 refl refl refl (omega arith) refl m)
@@ -160,8 +160,8 @@ module _ {text names : List ℕ} {table : List ℤ} {w : Walk} where
 
 -- the code of a part, then one instruction
 pub laid-more : {k l : Kind} {table table′ : List ℤ} {w u v : Walk} {g : Gives} {y : Sen ℕ k} (z : Sen ℕ l) (i : Instruction) → u .code ≡ w .code → size z ≡ size y + 1 → need z ≡ need y → code (w .code) z ≡ code (w .code) y ++ i ∷ [] →
-    Laid table table′ u v g y → Laid table (put table′ (v .code) (pair i [])) w (one-more v) g z
-unfolding one-more
+    Laid table table′ u v g y → Laid table (put table′ (v .code) (pair i [])) w (one-instruction v) g z
+unfolding one-instruction
 laid-more {table} {table′} {w} {u} {v} {y} z i a s d c p = record {
   code = omega (arith, p .code, s);
   need = rw d (p .need);
@@ -178,8 +178,8 @@ module _ {k l : Kind} {text names names′ : List ℕ} {table table′ : List �
 
   -- and one instruction after it
   lays-more : (i : Instruction) → ((y : Sen ℕ k) → size (make y) ≡ size y + 1) → ((y : Sen ℕ k) → need (make y) ≡ need y) → ((a : ℕ) (y : Sen ℕ k) → code a (make y) ≡ code a y ++ i ∷ []) →
-      (m : Lexeme) → w .next .place ≤ m .place → 4 * w .next .place + 1 + spare l ≤ 4 * m .place + spare k → Lays text names table (moved-to w m) x names′ table′ v g → Lays text names table w z names′ (put table′ (v .code) (pair i [])) (one-more v) g
-  unfolding moved-to one-more stand
+      (m : Lexeme) → w .next .place ≤ m .place → 4 * w .next .place + 1 + spare l ≤ 4 * m .place + spare k → Lays text names table (moved-to w m) x names′ table′ v g → Lays text names table w z names′ (put table′ (v .code) (pair i [])) (one-instruction v) g
+  unfolding moved-to one-instruction stand
   lays-more i s d c m h j p =
       lays (rw e (leads-one make (λ y. laid-more (make y) i refl (s y) (d y) (c (w .code) y)) (resolve (length names / 4) x) (stand text names w) (leads p))) (omega (arith, p .small)) (record { sound = p .fine .sound; low = p .fine .low }) (p .kept)
 
@@ -204,15 +204,15 @@ module _ {text names names′ : List ℕ} {table table′ : List ℤ} {w v : Wal
   unfolding resolve size need code spare
   lays-signed-plus m h p = lead m (omega arith) (lays-same (signed plus) refl (le-refl 2) (λ y. add-zero (size y)) (λ y. refl) (λ a y. append-nil (code a y)) p)
 
-  pub lays-signed-minus : {x : Sen Name term} (m : Lexeme) → w .next .place < m .place → Lays text names table (moved-to w m) x names′ table′ v g → Lays text names table w (signed minus x) names′ (put table′ (v .code) (pos 14 ∷ pos 0 ∷ [])) (one-more v) g
+  pub lays-signed-minus : {x : Sen Name term} (m : Lexeme) → w .next .place < m .place → Lays text names table (moved-to w m) x names′ table′ v g → Lays text names table w (signed minus x) names′ (put table′ (v .code) (pos 14 ∷ pos 0 ∷ [])) (one-instruction v) g
   unfolding resolve size need code pair spare
   lays-signed-minus m h = lays-more (signed minus) refl negate (λ y. refl) (λ y. refl) (λ a y. refl) m (omega arith) (omega arith)
 
-  pub lays-negated : {x : Sen Name condition} (m : Lexeme) → w .next .place < m .place → Lays text names table (moved-to w m) x names′ table′ v g → Lays text names table w (negated x) names′ (put table′ (v .code) (pos 15 ∷ pos 0 ∷ [])) (one-more v) g
+  pub lays-negated : {x : Sen Name condition} (m : Lexeme) → w .next .place < m .place → Lays text names table (moved-to w m) x names′ table′ v g → Lays text names table w (negated x) names′ (put table′ (v .code) (pos 15 ∷ pos 0 ∷ [])) (one-instruction v) g
   unfolding resolve size need code pair spare
   lays-negated m h = lays-more negated refl not (λ y. refl) (λ y. refl) (λ a y. refl) m (omega arith) (omega arith)
 
-  pub lays-print : {x : Sen Name expression} → Lays text names table w x names′ table′ v g → Lays text names table w (print x) names′ (put table′ (v .code) (pos 17 ∷ pos 0 ∷ [])) (one-more v) g
+  pub lays-print : {x : Sen Name expression} → Lays text names table w x names′ table′ v g → Lays text names table w (print x) names′ (put table′ (v .code) (pos 17 ∷ pos 0 ∷ [])) (one-instruction v) g
   unfolding moved-to resolve size need code pair spare
   lays-print = lays-more print refl print-int (λ y. refl) (λ y. refl) (λ a y. refl) (w .next) (le-refl (w .next .place)) (omega arith)
 
@@ -232,8 +232,8 @@ module _ {k j l : Kind} {text names names₁ names₂ : List ℕ} {table table�
 -- the code of both parts, then an operation
 laid-joined : {k j l : Kind} {table table₁ table₂ : List ℤ} {w c v : Walk} {g h : Gives} {x : Sen ℕ k} {y : Sen ℕ j} (z : Sen ℕ l) (o : Two-sided) (n : ℤ) (m : Lexeme) → n ≡ number o →
     size z ≡ size x + size y + 1 → need z ≡ max (need x) (1 + need y) → code (w .code) z ≡ code (w .code) x ++ (code (w .code + size x) y ++ two-sided o ∷ []) →
-    Laid table table₁ w c g x → Laid table₁ table₂ (moved-to c m) v h y → Laid table (put table₂ (v .code) (n ∷ pos 0 ∷ [])) w (one-more v) (record { need = max (g .need) (1 + h .need) }) z
-unfolding moved-to one-more pair
+    Laid table table₁ w c g x → Laid table₁ table₂ (moved-to c m) v h y → Laid table (put table₂ (v .code) (n ∷ pos 0 ∷ [])) w (one-instruction v) (record { need = max (g .need) (1 + h .need) }) z
+unfolding moved-to one-instruction pair
 laid-joined {table} {table₁} {table₂} {w} {c} {v} {x} {y} z o n m e s d f p q = record {
   code = omega (arith, p .code, q .code, s);
   need = rw (d, ← p .need, ← q .need);
@@ -243,20 +243,20 @@ laid-joined {table} {table₁} {table₂} {w} {c} {v} {x} {y} z o n m e s d f p 
 
 module _ {text names names₁ names₂ : List ℕ} {table table₁ table₂ : List ℤ} {w left v : Walk} {g h : Gives} where
   pub lays-multiply : {x : Sen Name term} {y : Sen Name factor} (o : Mul) (m : Lexeme) → left .next .place < m .place → Lays text names table w x names₁ table₁ left g → Lays text names₁ table₁ (moved-to left m) y names₂ table₂ v h →
-      Lays text names table w (multiply x o y) names₂ (put table₂ (v .code) (operation-number (number-of (mul o)) ∷ pos 0 ∷ [])) (one-more v) (record { need = max (g .need) (1 + h .need) })
-  unfolding moved-to one-more stand resolve size need code spare
+      Lays text names table w (multiply x o y) names₂ (put table₂ (v .code) (operation-number (number-of (mul o)) ∷ pos 0 ∷ [])) (one-instruction v) (record { need = max (g .need) (1 + h .need) })
+  unfolding moved-to one-instruction stand resolve size need code spare
   lays-multiply o m i p q =
       lays-two (λ a b. multiply a o b) refl p q refl refl refl (λ a b. laid-joined (multiply a o b) (of-mul o) (operation-number (number-of (mul o))) m (mul-operation o) refl refl refl) (omega (arith, p .small, q .small)) (fine-more (q .fine))
 
   pub lays-add : {x : Sen Name expression} {y : Sen Name term} (o : Sign) (m : Lexeme) → left .next .place < m .place → Lays text names table w x names₁ table₁ left g → Lays text names₁ table₁ (moved-to left m) y names₂ table₂ v h →
-      Lays text names table w (add x o y) names₂ (put table₂ (v .code) (operation-number (number-of (sign o)) ∷ pos 0 ∷ [])) (one-more v) (record { need = max (g .need) (1 + h .need) })
-  unfolding moved-to one-more stand resolve size need code spare
+      Lays text names table w (add x o y) names₂ (put table₂ (v .code) (operation-number (number-of (sign o)) ∷ pos 0 ∷ [])) (one-instruction v) (record { need = max (g .need) (1 + h .need) })
+  unfolding moved-to one-instruction stand resolve size need code spare
   lays-add o m i p q =
       lays-two (λ a b. add a o b) refl p q refl refl refl (λ a b. laid-joined (add a o b) (of-sign o) (operation-number (number-of (sign o))) m (sign-operation o) refl refl refl) (omega (arith, p .small, q .small)) (fine-more (q .fine))
 
   pub lays-compare : {x y : Sen Name expression} (o : Rel) (m : Lexeme) → left .next .place < m .place → Lays text names table w x names₁ table₁ left g → Lays text names₁ table₁ (moved-to left m) y names₂ table₂ v h →
-      Lays text names table w (compare x o y) names₂ (put table₂ (v .code) (operation-number (number-of (rel o)) ∷ pos 0 ∷ [])) (one-more v) (record { need = max (g .need) (1 + h .need) })
-  unfolding moved-to one-more stand resolve size need code spare
+      Lays text names table w (compare x o y) names₂ (put table₂ (v .code) (operation-number (number-of (rel o)) ∷ pos 0 ∷ [])) (one-instruction v) (record { need = max (g .need) (1 + h .need) })
+  unfolding moved-to one-instruction stand resolve size need code spare
   lays-compare o m i p q =
       lays-two (λ a b. compare a o b) refl p q refl refl refl (λ a b. laid-joined (compare a o b) (of-rel o) (operation-number (number-of (rel o))) m (rel-operation o) refl refl refl) (omega (arith, p .small, q .small)) (fine-more (q .fine))
 
@@ -277,9 +277,9 @@ laid-over {table} {table₁} {w} {c} {v} {x} z is e s n p t = record {
   numbers = rw (t, e, emit-code table (w .code) x (jump-if-false (v .code) ∷ is), ← p .code, ← p .numbers) (put-before table₁ (c .code) (jump-if-false (v .code)) is);
 }
 
-module _ {table table₁ table₂ : List ℤ} {w c v : Walk} {g h : Gives} {x : Sen ℕ condition} {y : Sen ℕ command} (m : Lexeme) (p : Laid table table₁ w c g x) (q : Laid table₁ table₂ (one-more (moved-to c m)) v h y) where
+module _ {table table₁ table₂ : List ℤ} {w c v : Walk} {g h : Gives} {x : Sen ℕ condition} {y : Sen ℕ command} (m : Lexeme) (p : Laid table table₁ w c g x) (q : Laid table₁ table₂ (one-instruction (moved-to c m)) v h y) where
   laid-guarded : (again : Bool) → let u = ended-walk again v in Laid table (put (ended-table again table₂ (v .code) (w .code)) (c .code) (pos 6 ∷ pos (u .code) ∷ [])) w u (record { need = max (g .need) (h .need) }) (guarded again x y)
-  unfolding moved-to one-more size need code pair ended-walk ended-table guarded
+  unfolding moved-to one-instruction size need code pair ended-walk ended-table guarded
   laid-guarded true = laid-over (while x y) (code (c .code + 1) y ++ jump (w .code) ∷ []) (rw (q .code, p .code) refl) (omega (arith, p .code, q .code)) (ap₂ max (p .need) (q .need)) p (sym (emit-code table₁ (c .code + 1) y (jump (w .code) ∷ []) ∙ rw (← q .code, ← q .numbers) (emit-one table₂ (v .code) (jump (w .code)))))
   laid-guarded false = laid-over (when x y) (code (c .code + 1) y) (rw (q .code, p .code) refl) (omega (arith, p .code, q .code)) (ap₂ max (p .need) (q .need)) p (q .numbers)
 
@@ -292,9 +292,9 @@ laid-then {table} {w} {x} {y} p q = record {
 }
 
 module _ {text names names₁ names₂ : List ℕ} {table table₁ table₂ : List ℤ} {w c v : Walk} {g h : Gives} {y : Sen Name command} where
-  pub lays-guarded : (again : Bool) {x : Sen Name condition} (m : Lexeme) → c .next .place < m .place → Lays text names table w x names₁ table₁ c g → Lays text names₁ table₁ (one-more (moved-to c m)) y names₂ table₂ v h →
+  pub lays-guarded : (again : Bool) {x : Sen Name condition} (m : Lexeme) → c .next .place < m .place → Lays text names table w x names₁ table₁ c g → Lays text names₁ table₁ (one-instruction (moved-to c m)) y names₂ table₂ v h →
       Lays text names table w (guarded again x y) names₂ (put (ended-table again table₂ (v .code) (w .code)) (c .code) (pos 6 ∷ pos (ended-walk again v .code) ∷ [])) (ended-walk again v) (record { need = max (g .need) (h .need) })
-  unfolding moved-to one-more ended-walk ended-table guarded stand resolve spare
+  unfolding moved-to one-instruction ended-walk ended-table guarded stand resolve spare
   lays-guarded true m i p q = lays-two while refl p q refl refl refl (λ a b f e. laid-guarded {x = a} {y = b} m f e true) (omega (arith, p .small, q .small)) (fine-more (q .fine))
   lays-guarded false m i p q = lays-two when refl p q refl refl refl (λ a b f e. laid-guarded {x = a} {y = b} m f e false) (omega (arith, p .small, q .small)) (q .fine)
 
@@ -320,6 +320,6 @@ module _ {text names : List ℕ} {w : Walk} {allow : ℕ} (r : Ready text names 
     ready-after s = record { stands = s; short = r .short; code = omega (arith, r .code, p .small); fine = p .fine; allowed = omega (arith, r .allowed, p .small) }
 
     -- and after the lexeme before m, with a place left free for a jump
-    pub ready-body : (m : Lexeme) → v .next .place < m .place → Stands text m → Ready text names′ (one-more (moved-to v m)) allow
-    unfolding moved-to one-more
+    pub ready-body : (m : Lexeme) → v .next .place < m .place → Stands text m → Ready text names′ (one-instruction (moved-to v m)) allow
+    unfolding moved-to one-instruction
     ready-body m h s = record { stands = s; short = r .short; code = omega (arith, r .code, p .small); fine = record { sound = p .fine .sound; low = p .fine .low }; allowed = omega (arith, r .allowed, p .small) }

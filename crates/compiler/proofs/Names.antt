@@ -23,7 +23,7 @@ use Rattle.names.specs.declared.Cell.{Cell}
 use Rattle.names.specs.declared.Cell.the-variants.{At, Nowhere}
 use Rattle.names.specs.declared.Declared.{Declared}
 use Rattle.names.specs.declared.Declared.the-variants as declared
-use Rattle.names.specs.Held.{held, visible-in, scope-in, found, Declares, declared-scope, counted, opened-scope, closed-scope, Sound, Low, Kept}
+use Rattle.names.specs.Held.{held, visible-in, scope-in, latest, Declares, declared-scope, one-up, opened-scope, closed-scope, Sound, Low, Kept}
 use Rattle.names.proofs.Held.{used-at, used-nowhere, kept-all, declared-kept, declared-visible, declared-count, declared-sound, declared-low, declared-given, declared-too-many, opened-scope-in, opened-sound, opened-low, closed-scope-in, closed-sound, closed-low}
 use Rattle.instruction.specs.Instructions.{Instruction, push-int, load-stack, store-stack, read, pair}
 use Rattle.meaning.specs.Layout.{size, code, need}
@@ -31,7 +31,7 @@ use Rattle.compiler.specs.declared.walk.Walk.{Walk}
 use Rattle.compiler.specs.declared.walk.Gives.{Gives}
 use Rattle.compiler.specs.declared.walk.Fault.{Fault}
 use Rattle.compiler.specs.declared.walk.Fault.the-variants.{Nothing, Is}
-use Rattle.compiler.specs.Steps.{moved-to, one-more, in-scope, first-fault, faulted-walk, operand-of, cell-of, noted-walk, cell-number, declared-walk, Declares-ahead, opened-walk, closed-walk}
+use Rattle.compiler.specs.Steps.{moved-to, one-instruction, in-scope, first-fault, faulted-walk, operand-of, cell-of, noted-walk, cell-number, declared-walk, Declares-ahead, opened-walk, closed-walk}
 use Rattle.compiler.specs.Tables.{put, emit}
 use Rattle.compiler.specs.Walks.{standing, stand, Laid, spare, Fine, Lays, Ready, name-of}
 use Rattle.compiler.proofs.Emits.{emit-one}
@@ -41,16 +41,16 @@ use Rattle.compiler.proofs.Lays.{Leads, gives, refuses, never, leads-on
 
 -- where the cells of visible declarations are below n, so is the one that is found
 module _ (text names : List ℕ) (n : ℕ) (letters : List ℕ) where
-  found-low : (k : ℕ) → ((i : ℕ) → i < k → getD names (i * 4 + 2) 0 < n) → (cell : ℕ) → found (visible-in text names k) letters ≡ At cell → cell < n
-  unfolding visible-in held found
+  found-low : (k : ℕ) → ((i : ℕ) → i < k → getD names (i * 4 + 2) 0 < n) → (cell : ℕ) → latest (visible-in text names k) letters ≡ At cell → cell < n
+  unfolding visible-in held latest
   found-low zero low cell e = let z : _≡_ {A = ℕ} 0 1 = cc in absurd (omega arith)
   found-low (suc k) low cell e = by (found-low k (λ i h. low i (omega arith)) cell) (ltb k (length names / 4)) e
     where
-      first : (found (visible-in text names k) letters ≡ At cell → cell < n) → (b : Bool) → elim b as (λ _. Cell) [ true ↦ At (held text names k .cell) | false ↦ found (visible-in text names k) letters ] ≡ At cell → cell < n
+      first : (latest (visible-in text names k) letters ≡ At cell → cell < n) → (b : Bool) → elim b as (λ _. Cell) [ true ↦ At (held text names k .cell) | false ↦ latest (visible-in text names k) letters ] ≡ At cell → cell < n
       first rest true e = let h : held text names k .cell ≡ cell = cc in omega (arith, low k (le-refl (suc k)))
       first rest false e = rest e
 
-      by : (found (visible-in text names k) letters ≡ At cell → cell < n) → (b : Bool) → found (cond b (held text names k ∷ visible-in text names k) (visible-in text names k)) letters ≡ At cell → cell < n
+      by : (latest (visible-in text names k) letters ≡ At cell → cell < n) → (b : Bool) → latest (cond b (held text names k ∷ visible-in text names k) (visible-in text names k)) letters ≡ At cell → cell < n
       by rest true e = first rest (same (held text names k .letters) letters) e
       by rest false e = rest e
 
@@ -89,8 +89,8 @@ laid-pair z i j a d s c = record { code = rw s a; need = d; numbers = rw (c, add
 
 module _ {text names : List ℕ} {table : List ℤ} {w : Walk} where
   pub lays-variable : (m : Lexeme) → w .next .place < m .place → Fine names w → let c = cell-of text names w (w .next) in
-      Lays text names table w (variable (name-of text (w .next))) names (put table (w .code) (pos 3 ∷ pos (cell-number c) ∷ [])) (moved-to (one-more (noted-walk c w (w .next .place))) m) (record { need = 1 })
-  unfolding moved-to one-more stand resolve size need code pair spare
+      Lays text names table w (variable (name-of text (w .next))) names (put table (w .code) (pos 3 ∷ pos (cell-number c) ∷ [])) (moved-to (one-instruction (noted-walk c w (w .next .place))) m) (record { need = 1 })
+  unfolding moved-to one-instruction stand resolve size need code pair spare
   lays-variable m h f =
       let c = cell-of text names w (w .next) in
       rw (noted-is c w (w .next .place))
@@ -98,17 +98,17 @@ module _ {text names : List ℕ} {table : List ℤ} {w : Walk} where
       (omega arith) (record { sound = f .sound; low = f .low }) (kept-all (w .scope .visible) names))
 
   pub lays-input : (m : Lexeme) → w .next .place < m .place → Fine names w → let c = cell-of text names w (w .next) in
-      Lays text names table w (input (name-of text (w .next))) names (put (put table (w .code) (pos 16 ∷ pos 0 ∷ [])) (w .code + 1) (pos 4 ∷ pos (cell-number c) ∷ [])) (moved-to (one-more (noted-walk c (one-more w) (w .next .place))) m) (record { need = 1 })
-  unfolding moved-to one-more cell-of stand resolve size need code pair spare
+      Lays text names table w (input (name-of text (w .next))) names (put (put table (w .code) (pos 16 ∷ pos 0 ∷ [])) (w .code + 1) (pos 4 ∷ pos (cell-number c) ∷ [])) (moved-to (one-instruction (noted-walk c (one-instruction w) (w .next .place))) m) (record { need = 1 })
+  unfolding moved-to one-instruction cell-of stand resolve size need code pair spare
   lays-input m h f =
       let c = cell-of text names w (w .next) in
-      rw (noted-is c (one-more w) (w .next .place))
-      (lays (leads-one input (λ k e. rw e (laid-pair (input k) read (store-stack k) (omega arith) refl refl refl)) (used (name-of text (w .next))) (stand text names w) (leads-used text names (one-more w) (fine-more f) (w .next)))
+      rw (noted-is c (one-instruction w) (w .next .place))
+      (lays (leads-one input (λ k e. rw e (laid-pair (input k) read (store-stack k) (omega arith) refl refl refl)) (used (name-of text (w .next))) (stand text names w) (leads-used text names (one-instruction w) (fine-more f) (w .next)))
       (omega arith) (record { sound = f .sound; low = f .low }) (kept-all (w .scope .visible) names))
 
   pub lays-assign : {table′ : List ℤ} {v : Walk} {g : Gives} {x : Sen Name expression} (l m : Lexeme) → w .next .place ≤ m .place → Fine names w → let c = cell-of text names w l in
-      Lays text names table (moved-to (noted-walk c w (l .place)) m) x names table′ v g → Lays text names table w (assign (name-of text l) x) names (put table′ (v .code) (pos 4 ∷ pos (cell-number c) ∷ [])) (one-more v) g
-  unfolding moved-to one-more stand resolve size need code pair spare
+      Lays text names table (moved-to (noted-walk c w (l .place)) m) x names table′ v g → Lays text names table w (assign (name-of text l) x) names (put table′ (v .code) (pos 4 ∷ pos (cell-number c) ∷ [])) (one-instruction v) g
+  unfolding moved-to one-instruction stand resolve size need code pair spare
   lays-assign {x} l m h f p =
       let c = cell-of text names w l in
       let q = rw (noted-is c w (l .place)) at p in
@@ -173,11 +173,11 @@ module _ (names names′ : List ℕ) (w r : Walk) (fine : Fine names w) (p : Dec
       by declared.TooMany is (Is why q) = unfold declared-walk faulted-walk first-fault standing pass in refuses why q refl refl
 
 module _ {text names names′ : List ℕ} {table : List ℤ} {w : Walk} where
-  pub lays-declare : (z : Walk) (m : Lexeme) → w .next .place < m .place → Fine names w → Declares-ahead names (one-more (one-more w)) z names′ →
+  pub lays-declare : (z : Walk) (m : Lexeme) → w .next .place < m .place → Fine names w → Declares-ahead names (one-instruction (one-instruction w)) z names′ →
       Lays text names table w (declare (name-of text (w .next))) names′ (put (put table (w .code) (pos 2 ∷ pos 0 ∷ [])) (w .code + 1) (pos 4 ∷ pos (w .scope .«next_cell») ∷ [])) (moved-to z m) (record { need = 1 })
-  unfolding moved-to one-more stand resolve size need code pair spare
+  unfolding moved-to one-instruction stand resolve size need code pair spare
   lays-declare z m h f p =
-      let y = one-more (one-more w) in
+      let y = one-instruction (one-instruction w) in
       let n = enters names names′ y z (fine-more (fine-more f)) p in
       let c = ap (λ (v : Walk). v .code) (declared-is names y z names′ p) in
       lays (leads-one declare (λ k e. rw (← e) (laid-pair (declare (w .scope .«next_cell»)) (push-int (pos 0)) (store-stack (w .scope .«next_cell»)) (omega arith) refl refl refl))
@@ -231,5 +231,5 @@ module _ {text names : List ℕ} {w : Walk} {allow : ℕ} where
         short = r .short;
         code = r .code;
         fine = record { sound = opened-sound names (w .scope) (r .fine .sound) few; low = opened-low names (w .scope) (r .fine .sound) few (r .fine .low) };
-        allowed = unfold opened-scope counted in omega (arith, r .allowed);
+        allowed = unfold opened-scope one-up in omega (arith, r .allowed);
       }

@@ -18,7 +18,7 @@ use Rattle.compiler.specs.declared.walk.Walk.{Walk}
 use Rattle.compiler.specs.declared.walk.Gives.{Gives}
 use Rattle.compiler.specs.declared.walk.Read.{Read}
 use Rattle.compiler.specs.declared.walk.Read.the-variants.{Done, Refused}
-use Rattle.compiler.specs.Steps.{moved-to, one-more, operation-number, Follows, Past, Advances, Expects}
+use Rattle.compiler.specs.Steps.{moved-to, one-instruction, operation-number, Follows, Past, Advances, Expects}
 use Rattle.compiler.specs.Tables.{put}
 use Rattle.compiler.specs.Walks.{Lays, Ready, Reads}
 use Rattle.compiler.proofs.Emits.{length-put}
@@ -105,7 +105,7 @@ pub record Joins {A : Type 0} {k k′ k″ : Kind} (sort : Sort A) (way : Way k 
   pub more : {text : List ℕ} {l m n : code.Lexeme} (allow : ℕ) (x : Sen Name k) → Passed way text l m allow x → (o : Is-one sort text m) → Follows text m n → Leads text l n allow out allow way′ (make x (o .which))
   pub lost : {text : List ℕ} {l m : code.Lexeme} {why : Refusal} {p : ℕ} (allow : ℕ) (x : Sen Name k) → Passed way text l m allow x → Is-one sort text m → reply.Refused why p ≡ coded (next text (m .end)) → Barred out text l allow why p
   pub lays : {text names names₁ names₂ : List ℕ} {table table₁ table₂ : List ℤ} {w left v : Walk} {g h : Gives} {x : Sen Name k} {y : Sen Name k′} (o : A) (m : code.Lexeme) → left .next .place < m .place → Lays text names table w x names₁ table₁ left g → Lays text names₁ table₁ (moved-to left m) y names₂ table₂ v h →
-      Lays text names table w (make x o y) names₂ (put table₂ (v .code) (operation-number (number-of (sort .lexeme o)) ∷ pos 0 ∷ [])) (one-more v) (record { need = max (g .need) (1 + h .need) })
+      Lays text names table w (make x o y) names₂ (put table₂ (v .code) (operation-number (number-of (sort .lexeme o)) ∷ pos 0 ∷ [])) (one-instruction v) (record { need = max (g .need) (1 + h .need) })
 
 pub term-joins : Joins muls term-so-far factor-way term-so-far multiply
 term-joins = record { more = λ allow x p o. term-more allow x p o; lost = λ allow x p o. term-lost allow x p o; lays = lays-multiply }
@@ -137,13 +137,13 @@ module _ {A : Type 0} {k k′ k″ : Kind} {sort : Sort A} {way : Way k (Sen Nam
       pub right-later : (left .next .place < z .next .place) × Stands text (z .next)
       right-later = (omega (arith, so .passed .stands .order, passed .follows .later, right .passed .later), right .passed .stands)
 
-      pub right-joined : Got out text names₀ table w allow names (put table₂ (z .code) (operation-number f ∷ pos 0 ∷ [])) (one-more z) (record { need = max (g .need) (1 + h .need) })
-      unfolding one-more
+      pub right-joined : Got out text names₀ table w allow names (put table₂ (z .code) (operation-number f ∷ pos 0 ∷ [])) (one-instruction z) (record { need = max (g .need) (1 + h .need) })
+      unfolding one-instruction
       right-joined = record {
         what = make (so .what) (operator .which) (right .what);
         passed = right-leads .passes (right .what) (right .passed);
         laid =
-            subst (λ (n : ℕ). Lays text names₀ table w (make (so .what) (operator .which) (right .what)) names (put table₂ (z .code) (operation-number n ∷ pos 0 ∷ [])) (one-more z) (record { need = max (g .need) (1 + h .need) })) (sym (number ∙ operator .number))
+            subst (λ (n : ℕ). Lays text names₀ table w (make (so .what) (operator .which) (right .what)) names (put table₂ (z .code) (operation-number n ∷ pos 0 ∷ [])) (one-instruction z) (record { need = max (g .need) (1 + h .need) })) (sym (number ∙ operator .number))
             (j .lays (operator .which) (y .next) (omega (arith, so .passed .stands .some (operator .goes), passed .follows .later)) (so .laid) (subst (λ (u : Walk). Lays text names table₁ u (right .what) names table₂ z h) (passed .moved) (right .laid)));
       }
 
@@ -158,5 +158,5 @@ module _ {A : Type 0} {k k′ : Kind} {sort : Sort A} {way : Way k (Sen Name k)}
     {text names : List ℕ} {table₀ table₁ : List ℤ} {allow need₀ need : ℕ} {left₀ left : Walk} (so-far : Rounds way text names table₀ allow left₀ need₀ table₁ left need) {f : ℕ} (number : f ≡ fixed-number (left .next .kind)) (test : sort .test f ≡ true) where
   -- one round more
   pub round-on : {y : Walk} → Past text left y → {table₂ : List ℤ} {z : Walk} {h : Gives} → Got way′ text names table₁ y allow names table₂ z h → length table₂ ≡ length table₁ →
-      Rounds way text names table₀ allow left₀ need₀ (put table₂ (z .code) (operation-number f ∷ pos 0 ∷ [])) (one-more z) (max need (1 + h .need))
+      Rounds way text names table₀ allow left₀ need₀ (put table₂ (z .code) (operation-number f ∷ pos 0 ∷ [])) (one-instruction z) (max need (1 + h .need))
   round-on passed right e = record { count = length-put _ _ _ ∙ e ∙ so-far .count; on = λ before w g. right-joined j (so-far .on before w g) number test passed right }

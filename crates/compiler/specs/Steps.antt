@@ -22,7 +22,7 @@ use Rattle.names.specs.declared.Cell.{Cell}
 use Rattle.names.specs.declared.Cell.the-variants.{At, Nowhere}
 use Rattle.names.specs.declared.Declared.{Declared}
 use Rattle.names.specs.declared.Declared.the-variants as declared
-use Rattle.names.specs.Held.{visible-in, found, Declares, opened-scope, closed-scope}
+use Rattle.names.specs.Held.{visible-in, latest, Declares, opened-scope, closed-scope}
 use Rattle.instruction.specs.Numbers.{plus, minus, times, divide, equals, smaller, greater}
 use Rattle.instruction.specs.Instructions.{number}
 use Rattle.compiler.specs.declared.walk.Walk.{Walk}
@@ -40,8 +40,8 @@ start-at place = record { next = record { kind = kind.Fixed (code-of end); place
 unfoldable pub moved-to : Walk → Lexeme → Walk
 moved-to w l = record { next = l; code = w .code; scope = w .scope; fault = w .fault }
 
-unfoldable pub one-more : Walk → Walk
-one-more w = record { next = w .next; code = w .code + 1; scope = w .scope; fault = w .fault }
+unfoldable pub one-instruction : Walk → Walk
+one-instruction w = record { next = w .next; code = w .code + 1; scope = w .scope; fault = w .fault }
 
 unfoldable pub in-scope : Walk → Scope → Walk
 in-scope w s = record { next = w .next; code = w .code; scope = s; fault = w .fault }
@@ -99,7 +99,7 @@ before-body true = DO
 before-body false = THEN
 
 unfoldable pub ended-walk : Bool → Walk → Walk
-ended-walk true w = one-more w
+ended-walk true w = one-instruction w
 ended-walk false w = w
 
 unfoldable pub ended-table : Bool → List ℤ → ℕ → ℕ → List ℤ
@@ -121,7 +121,7 @@ operation-number b =
 
 -- the cell of the name l, in the scope of the walk
 unfoldable pub cell-of : List ℕ → List ℕ → Walk → Lexeme → Cell
-cell-of text names w l = found (visible-in text names (w .scope .visible)) (part text (l .place) (l .end))
+cell-of text names w l = latest (visible-in text names (w .scope .visible)) (part text (l .place) (l .end))
 
 unfoldable pub noted-walk : Cell → Walk → ℕ → Walk
 noted-walk (At k) w p = w

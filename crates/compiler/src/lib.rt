@@ -116,7 +116,7 @@ pub fn judge(text: &[u8]) -> Answer
 }
 
 // One `PushInt 0` for each cell.
-fn open(table: &mut [i32], cells: usize)
+fn put_cells(table: &mut [i32], cells: usize)
     ensures { λ _. ⌜ now (table .exit) ≡ opening cells (now (table .entry)) ⌝ }
 {
     let mut i = 0;
@@ -132,7 +132,7 @@ fn write(text: &[u8], table: &mut [i32], cells: usize)
     ensures { λ _. do ⌜ Written (← ⟦Limits::NESTING⟧ .entry) (← ⟦Limits::DECLARATIONS⟧ .entry) (now (text .entry)) cells (now (table .entry)) (now (table .exit)) ⌝ }
 {
     let mut names = [0usize; NAMES];
-    open(table, cells);
+    put_cells(table, cells);
     let r = program(text, &mut names, table, cells);
     let Read::Done(w, _) = r else {
         return;

@@ -3,11 +3,8 @@ ghost use mathlib.Core.Path.{_≡_};
 ghost use mathlib.Core.List.{[], _∷_};
 ghost use Prim.Native.Nat.{_<_};
 ghost use lib.IntN.{pos};
-ghost use lib.ListN.{length};
-ghost use Rattle.lexeme.specs.declared.Lexeme as code;
-ghost use Rattle.names.specs.Held.{found};
 ghost use Rattle.compiler.specs.Tables.{put};
-ghost use Rattle.compiler.specs.Steps.{one-more, cell-of, noted-walk, cell-number, Declares-ahead, opened-walk, closed-walk};
+ghost use Rattle.compiler.specs.Steps.{one-instruction, cell-of, noted-walk, cell-number, Declares-ahead, opened-walk, closed-walk};
 use crate::walk;
 use crate::walk::Walk;
 use base::Refusal;
@@ -46,7 +43,7 @@ pub fn look_up(text: &[u8], names: &[usize], w: Walk, l: Lexeme) -> Cell
 // A use of the name ahead: an instruction on its cell.
 pub fn used(text: &[u8], names: &[usize], table: &mut [i32], w: Walk, operation: i32) -> Walk
     requires { ⌜ w .code < 10000000 ⌝ }
-    ensures { λ r. ⌜ (r ≡ one-more (noted-walk (cell-of (now (text .entry)) (now (names .entry)) w (w .next)) w (w .next .place))) × (now (table .exit) ≡ put (now (table .entry)) (w .code) (operation ∷ pos (cell-number (cell-of (now (text .entry)) (now (names .entry)) w (w .next))) ∷ [])) ⌝ }
+    ensures { λ r. ⌜ (r ≡ one-instruction (noted-walk (cell-of (now (text .entry)) (now (names .entry)) w (w .next)) w (w .next .place))) × (now (table .exit) ≡ put (now (table .entry)) (w .code) (operation ∷ pos (cell-number (cell-of (now (text .entry)) (now (names .entry)) w (w .next))) ∷ [])) ⌝ }
 {
     let l = w.next;
     let c = look_up(text, names, w, l);

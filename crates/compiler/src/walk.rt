@@ -6,7 +6,7 @@ ghost use lib.IntN.{pos};
 ghost use lib.ListN.{length};
 ghost use Rattle.lexeme.specs.Coded.{fixed-number};
 ghost use Rattle.compiler.specs.Tables.{put};
-ghost use Rattle.compiler.specs.Steps.{start-at, one-more, moved-to, in-scope, faulted-walk, passed-on, operand-of, Advances, Expects};
+ghost use Rattle.compiler.specs.Steps.{start-at, one-instruction, moved-to, in-scope, faulted-walk, passed-on, operand-of, Advances, Expects};
 use base::Refusal;
 use lexeme::Found;
 use lexeme::Kind;
@@ -67,7 +67,7 @@ pub fn operand(n: usize) -> i32
 // The walk with a place for one instruction more.
 pub fn skipped(w: Walk) -> Walk
     requires { ⌜ w .code < 10000000 ⌝ }
-    ensures { λ r. ⌜ r ≡ one-more w ⌝ }
+    ensures { λ r. ⌜ r ≡ one-instruction w ⌝ }
 {
     let next = w.next;
     let scope = w.scope;
@@ -83,7 +83,7 @@ pub fn skipped(w: Walk) -> Walk
 // The walk with one instruction more.
 pub fn emitted(table: &mut [i32], w: Walk, operation: i32, operand: i32) -> Walk
     requires { ⌜ w .code < 10000000 ⌝ }
-    ensures { λ r. ⌜ (r ≡ one-more w) × (now (table .exit) ≡ put (now (table .entry)) (w .code) (operation ∷ operand ∷ [])) ⌝ }
+    ensures { λ r. ⌜ (r ≡ one-instruction w) × (now (table .exit) ≡ put (now (table .entry)) (w .code) (operation ∷ operand ∷ [])) ⌝ }
 {
     put(table, w.code, operation, operand);
     skipped(w)

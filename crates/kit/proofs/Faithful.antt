@@ -23,7 +23,7 @@ use Rattle.machine.specs.Machine.{whole-run, report}
 use Rattle.meaning.specs.Layout.{program-need}
 use Rattle.meaning.specs.Meaning.{meaning}
 use Rattle.meaning.specs.Cost.{Costs-more-than}
-use Rattle.meaning.specs.Fits.{Fits, Stands}
+use Rattle.meaning.specs.Fits.{Fits, In-text}
 use Rattle.meaning.proofs.Whole.{whole}
 use Rattle.meaning.proofs.Budget.{never-bad, budget}
 use Rattle.compiler.specs.Compiled.{Accepted, short-enough, at-most, measured, judged, compiled, code-of-text}
@@ -54,7 +54,7 @@ module _ (limits : Limits) (text : List ℕ) (n : ℕ) (a : Accepted) (accepted 
       let r = given-by (read (limits .nesting) (l .0)) _ (j .0) (l .2) in
       let k = given-by (resolved (limits .declarations) (r .0)) _ (j .0) (r .2) in
       let w : Whole (whats (l .0)) (r .0) = accepts (limits .nesting) (l .0) (r .0) .0 (r .1) .0 in
-      let g = resolved-well (limits .declarations) (Stands text) (r .0) (k .1) (program-strings text (limits .sizes) (l .0) (r .0) (l .1) w) in
+      let g = resolved-well (limits .declarations) (In-text text) (r .0) (k .1) (program-strings text (limits .sizes) (l .0) (r .0) (l .1) w) in
       subst (λ (x : Accepted). Fits text (x .cells) (x .command)) (at-most-same (limits .instructions) _ (j .0) (k .2) ∙ at-most-same (n / 2) (j .0) a (j .2)) (g .each)
 
   module _ (readings : List ℤ) (room cells budget-given : ℕ) (enough : program-need (a .cells) (a .command) ≤ cells) where

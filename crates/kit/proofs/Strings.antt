@@ -12,7 +12,7 @@ use Rattle.sentence.specs.Sentences.{Kind, Sen, command, spell, program, litera
 use Rattle.sentence.specs.Grammar.{Whole, whats}
 use Rattle.sentence.specs.Parts.{Each}
 use Rattle.machine.specs.Machine.{string-from}
-use Rattle.meaning.specs.Fits.{Stands}
+use Rattle.meaning.specs.Fits.{In-text}
 
 module _ (text : List ℕ) where
   -- a lexeme that is a string stands in the text
@@ -20,7 +20,7 @@ module _ (text : List ℕ) where
   Good (lit n) = Unit {0}
   Good (name x) = Unit {0}
   Good (class x) = Unit {0}
-  Good (string q) = Stands text q
+  Good (string q) = In-text text q
   Good (fixed f) = Unit {0}
 
   next-good : (at : ℕ) (m : Placed) (e : ℕ) → next text at ≡ given (lexeme m e) → Good (m .what)
@@ -58,7 +58,7 @@ module _ (text : List ℕ) where
   right-good (x ∷ xs) ys h = right-good xs ys (tail-good h)
 
   -- the strings of a sentence are among the lexemes that spell it
-  strings-good : {k : Kind} (x : Sen Name k) → All (spell x) → Each (λ _. Unit {0}) (Stands text) x
+  strings-good : {k : Kind} (x : Sen Name k) → All (spell x) → Each (λ _. Unit {0}) (In-text text) x
   unfolding spell Each
   strings-good (literal n) h = tt
   strings-good (variable x) h = tt
@@ -83,6 +83,6 @@ module _ (text : List ℕ) where
   strings-good (single m) h = strings-good m h
   strings-good (then ms m) h = (strings-good ms (left-good (spell ms) _ h), strings-good m (right-good (spell ms) _ h))
 
-  pub program-strings : (sizes : Sizes) (ls : List Placed) (m : Sen Name command) → lexemes sizes text ≡ given ls → Whole (whats ls) m → Each (λ _. Unit {0}) (Stands text) m
+  pub program-strings : (sizes : Sizes) (ls : List Placed) (m : Sen Name command) → lexemes sizes text ≡ given ls → Whole (whats ls) m → Each (λ _. Unit {0}) (In-text text) m
   unfolding Whole program
   program-strings sizes ls m e w = strings-good m (left-good (spell m) _ (tail-good (subst All (sym w) (all-of (lexemes-each sizes text Good next-good tt ls e)))))

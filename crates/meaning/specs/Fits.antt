@@ -9,9 +9,9 @@ use Rattle.sentence.specs.Parts.{Each}
 use Rattle.machine.specs.Machine.{string-from}
 
 -- a string stands in the text at its place
-abbrev pub Stands : List ℕ → Quoted → Type 0
-Stands text q = string-from text (q .place) ≡ some (q .inside)
+abbrev pub In-text : List ℕ → Quoted → Type 0
+In-text text q = string-from text (q .place) ≡ some (q .inside)
 
 -- each cell of a sentence is one of d, and each of its strings stands in the text
 abbrev pub Fits : List ℕ → ℕ → {k : Kind} → Sen ℕ k → Type 0
-Fits text d x = Each (λ c. c < d) (Stands text) x
+Fits text d x = Each (λ c. c < d) (In-text text) x

@@ -10,7 +10,7 @@ use lib.Seq.{drop-cons}
 use borrow.Author.Tests.{ne-eqb, lt-ltb, ltb-true, ltb-false}
 use Rattle.base.specs.Bytes.{part, same}
 use Rattle.names.specs.Names.{Declaration}
-use Rattle.names.specs.Held.{held, visible-in, found}
+use Rattle.names.specs.Held.{held, visible-in, latest}
 use Rattle.names.specs.declared.Cell.{Cell}
 use Rattle.names.specs.declared.Cell.the-variants.{At, Nowhere}
 
@@ -27,7 +27,7 @@ other-letter text p word h k d e = rw (drop-cons text p 0) (other-first (e - p) 
 
 -- the cell of a list's first declaration, or of a later one
 abbrev picked : Declaration → List Declaration → List ℕ → Bool → Cell
-picked d ds word t = elim t [ true ↦ At (d .cell) | false ↦ found ds word ]
+picked d ds word t = elim t [ true ↦ At (d .cell) | false ↦ latest ds word ]
 
 module _ (text names : List ℕ) where
   abbrev room : ℕ
@@ -47,23 +47,23 @@ module _ (text names : List ℕ) where
       by i true h = let m : min (suc v) room ≡ suc v = omega (arith, ltb-true v room h) in rw m (rw h)
       by i false h = let m : min (suc v) room ≡ min v room = omega (arith, ltb-false v room h) in rw m i
 
-  pub found-room : (v k : ℕ) (word letters : List ℕ) → k ≡ min v room → word ≡ letters → found (visible-in text names k) word ≡ found (visible-in text names v) letters
+  pub found-room : (v k : ℕ) (word letters : List ℕ) → k ≡ min v room → word ≡ letters → latest (visible-in text names k) word ≡ latest (visible-in text names v) letters
   found-room v k word letters h e = rw (h, e, visible-room v)
 
-  pub found-none : (word : List ℕ) (k : ℕ) → k ≤ 0 → Nowhere ≡ found (visible-in text names k) word
-  unfolding visible-in found
+  pub found-none : (word : List ℕ) (k : ℕ) → k ≤ 0 → Nowhere ≡ latest (visible-in text names k) word
+  unfolding visible-in latest
   found-none word k h = let z : k ≡ 0 = omega arith in rw z
 
   -- a loop that goes down to the first declaration, at the k-th
   module _ (word : List ℕ) (k : ℕ) (some : 0 < k) (fits : k ≤ room) where
-    last-visible : (t : Bool) → same (held text names (k - 1) .letters) word ≡ t → found (visible-in text names k) word ≡ picked (held text names (k - 1)) (visible-in text names (k - 1)) word t
-    unfolding found
+    last-visible : (t : Bool) → same (held text names (k - 1) .letters) word ≡ t → latest (visible-in text names k) word ≡ picked (held text names (k - 1)) (visible-in text names (k - 1)) word t
+    unfolding latest
     last-visible t h =
         let e : k ≡ suc (k - 1) = omega arith in
-        ap (λ (j : ℕ). found (visible-in text names j) word) e ∙ (ap (λ (l : List Declaration). found l word) (visible-suc (k - 1) (omega arith)) ∙ ap (picked (held text names (k - 1)) (visible-in text names (k - 1)) word) h)
+        ap (λ (j : ℕ). latest (visible-in text names j) word) e ∙ (ap (λ (l : List Declaration). latest l word) (visible-suc (k - 1) (omega arith)) ∙ ap (picked (held text names (k - 1)) (visible-in text names (k - 1)) word) h)
 
-    pub found-last : same (held text names (k - 1) .letters) word ≡ true → At (held text names (k - 1) .cell) ≡ found (visible-in text names k) word
+    pub found-last : same (held text names (k - 1) .letters) word ≡ true → At (held text names (k - 1) .cell) ≡ latest (visible-in text names k) word
     found-last h = sym (last-visible true h)
 
-    pub found-before : same (held text names (k - 1) .letters) word ≡ false → found (visible-in text names (k - 1)) word ≡ found (visible-in text names k) word
+    pub found-before : same (held text names (k - 1) .letters) word ≡ false → latest (visible-in text names (k - 1)) word ≡ latest (visible-in text names k) word
     found-before h = sym (last-visible false h)

@@ -15,7 +15,7 @@ use Rattle.base.specs.Bytes.{part, same}
 use Rattle.lexeme.specs.Lexemes.{Name}
 use Rattle.names.specs.Names as N
 use Rattle.names.specs.Names.{Declaration, Known, look-up, used, one-more, declared-here, opened, closed}
-use Rattle.names.specs.Held.{held, visible-in, scope-in, found, counted, declared-scope, entered, Declares, opened-scope, closed-scope, Sound, Low, Kept}
+use Rattle.names.specs.Held.{held, visible-in, scope-in, latest, one-up, declared-scope, entered, Declares, opened-scope, closed-scope, Sound, Low, Kept}
 use Rattle.names.specs.declared.Scope.{Scope}
 use Rattle.names.specs.declared.Cell.{Cell}
 use Rattle.names.specs.declared.Cell.the-variants.{At, Nowhere}
@@ -36,21 +36,21 @@ abbrev answer : Name → N.Scope → Cell → Answer (Known ℕ)
 answer x s (At cell) = given (record { what = cell; scope = s })
 answer x s Nowhere = refused Undeclared (x .place)
 
-looked-up : (x : Name) (s : N.Scope) (ds : List Declaration) → look-up ds x s ≡ answer x s (found ds (x .letters))
-unfolding look-up found
+looked-up : (x : Name) (s : N.Scope) (ds : List Declaration) → look-up ds x s ≡ answer x s (latest ds (x .letters))
+unfolding look-up latest
 looked-up x s [] = refl
 looked-up x s (d ∷ ds) = by (looked-up x s ds) (same (d .letters) (x .letters))
   where
-    by : look-up ds x s ≡ answer x s (found ds (x .letters)) → (b : Bool) → elim b as (λ _. Answer (Known ℕ)) [ true ↦ given (record { what = d .cell; scope = s }) | false ↦ look-up ds x s ] ≡ answer x s (elim b as (λ _. Cell) [ true ↦ At (d .cell) | false ↦ found ds (x .letters) ])
+    by : look-up ds x s ≡ answer x s (latest ds (x .letters)) → (b : Bool) → elim b as (λ _. Answer (Known ℕ)) [ true ↦ given (record { what = d .cell; scope = s }) | false ↦ look-up ds x s ] ≡ answer x s (elim b as (λ _. Cell) [ true ↦ At (d .cell) | false ↦ latest ds (x .letters) ])
     by i true = refl
     by i false = i
 
 module _ (text names : List ℕ) (s : Scope) (x : Name) where
-  pub used-at : (cell : ℕ) → found (visible-in text names (s .visible)) (x .letters) ≡ At cell → used x (scope-in text names s) ≡ given (record { what = cell; scope = scope-in text names s })
+  pub used-at : (cell : ℕ) → latest (visible-in text names (s .visible)) (x .letters) ≡ At cell → used x (scope-in text names s) ≡ given (record { what = cell; scope = scope-in text names s })
   unfolding used scope-in
   used-at cell h = looked-up x (scope-in text names s) (visible-in text names (s .visible)) ∙ ap (answer x (scope-in text names s)) h
 
-  pub used-nowhere : found (visible-in text names (s .visible)) (x .letters) ≡ Nowhere → used x (scope-in text names s) ≡ refused Undeclared (x .place)
+  pub used-nowhere : latest (visible-in text names (s .visible)) (x .letters) ≡ Nowhere → used x (scope-in text names s) ≡ refused Undeclared (x .place)
   unfolding used scope-in
   used-nowhere h = looked-up x (scope-in text names s) (visible-in text names (s .visible)) ∙ ap (answer x (scope-in text names s)) h
 
@@ -84,8 +84,8 @@ in-sets [] l i j h k = absurd (omega arith)
 in-sets (v ∷ vs) l i zero h k = rw add-zero (before-sets vs (set l i v) (suc i) i (omega arith) ∙ getD-set-same l i v 0 (omega arith))
 in-sets (v ∷ vs) l i (suc j) h k = let e : i + suc j ≡ suc i + j = omega arith in rw e (in-sets vs (set l i v) (suc i) j (simp length-set (omega arith)) (omega arith))
 
-counts-on : (n : ℕ) → n ≤ 1000000 → counted n ≡ suc n
-unfolding counted
+counts-on : (n : ℕ) → n ≤ 1000000 → one-up n ≡ suc n
+unfolding one-up
 counts-on n h = omega arith
 
 module _ (names : List ℕ) (s : Scope) (p e : ℕ) (sound : Sound names s) where

@@ -31,18 +31,18 @@ scope-in text names s = record { visible = visible-in text names (s .visible); d
 -- ---- a use
 
 -- the cell of the latest declaration with these letters
-unfoldable pub found : List Declaration → List ℕ → Cell
-found [] letters = Nowhere
-found (d ∷ ds) letters = elim (same (d .letters) letters) [ true ↦ At (d .cell) | false ↦ found ds letters ]
+unfoldable pub latest : List Declaration → List ℕ → Cell
+latest [] letters = Nowhere
+latest (d ∷ ds) letters = elim (same (d .letters) letters) [ true ↦ At (d .cell) | false ↦ latest ds letters ]
 
 -- ---- a declaration
 
 -- one more, as far as the code's numbers go
-unfoldable pub counted : ℕ → ℕ
-counted n = min (suc n) 18446744073709551615
+unfoldable pub one-up : ℕ → ℕ
+one-up n = min (suc n) 18446744073709551615
 
 unfoldable pub declared-scope : Scope → Scope
-declared-scope s = record { visible = counted (s .visible); declared = counted (s .declared); «next_cell» = counted (s .«next_cell»); cells = counted (s .cells); blocks = s .blocks }
+declared-scope s = record { visible = one-up (s .visible); declared = one-up (s .declared); «next_cell» = one-up (s .«next_cell»); cells = one-up (s .cells); blocks = s .blocks }
 
 -- the list with the declaration of the name from p up to e, if it has room
 unfoldable pub entered : List ℕ → Scope → ℕ → ℕ → List ℕ
@@ -56,7 +56,7 @@ Declares names s p e TooMany names′ = (length names / 4 ≤ s .declared) × (n
 -- ---- a block
 
 unfoldable pub opened-scope : Scope → Scope
-opened-scope s = record { visible = s .visible; declared = s .declared; «next_cell» = s .«next_cell»; cells = s .cells; blocks = counted (s .blocks) }
+opened-scope s = record { visible = s .visible; declared = s .declared; «next_cell» = s .«next_cell»; cells = s .cells; blocks = one-up (s .blocks) }
 
 unfoldable pub closed-scope : Scope → Scope → Scope
 closed-scope before s = record { visible = before .visible; declared = s .declared; «next_cell» = s .«next_cell»; cells = s .cells; blocks = before .blocks }

@@ -54,7 +54,7 @@ look-up (d ∷ ds) x s = elim (same (d .letters) (x .letters)) [ true ↦ given 
 unfoldable pub used : Name → Naming ℕ
 used x = λ s. look-up (s .visible) x s
 
--- one declaration more. Cell k, counted from 0, belongs to the k-th declaration in the text; cells aren't shared.
+-- one declaration more. Cell k, one-up from 0, belongs to the k-th declaration in the text; cells aren't shared.
 unfoldable pub one-more : Name → Scope → Scope
 one-more x s = record {
   visible = record { letters = x .letters; cell = s .next-cell; block = s .blocks } ∷ s .visible;

@@ -6,7 +6,7 @@ ghost use Prim.Native.Nat.{ℕ, _*_, _/_, _<_};
 ghost use lib.ListN.{length};
 ghost use lib.Seq.{sets};
 ghost use Rattle.base.specs.Bytes.{part, same};
-ghost use Rattle.names.specs.Held.{counted, held, visible-in, found, declared-scope, Declares, opened-scope, closed-scope};
+ghost use Rattle.names.specs.Held.{one-up, held, visible-in, latest, declared-scope, Declares, opened-scope, closed-scope};
 
 pub struct Scope {
     // The declarations still visible: so many of the list.
@@ -36,7 +36,7 @@ pub const ENTRY: usize = 4;
 
 // One more, as far as numbers go.
 fn one_more(n: usize) -> usize
-    ensures { λ r. ⌜ r ≡ counted n ⌝ }
+    ensures { λ r. ⌜ r ≡ one-up n ⌝ }
 {
     if n < 18446744073709551615 {
         return n + 1;
@@ -73,7 +73,7 @@ fn is_named(text: &[u8], names: &[usize], k: usize, word: &[u8]) -> bool
 
 // The latest visible declaration of the name from the place p up to e.
 pub fn look_up(text: &[u8], names: &[usize], s: Scope, p: usize, e: usize) -> Cell
-    ensures { λ r. ⌜ r ≡ found (visible-in (now (text .entry)) (now (names .entry)) (s .visible)) (part (now (text .entry)) p e) ⌝ }
+    ensures { λ r. ⌜ r ≡ latest (visible-in (now (text .entry)) (now (names .entry)) (s .visible)) (part (now (text .entry)) p e) ⌝ }
 {
     let word = base::part(text, p, e);
     let mut k = base::smaller(s.visible, names.len() / ENTRY);

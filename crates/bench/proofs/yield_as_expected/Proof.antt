@@ -31,7 +31,7 @@ returns c =
     Machine.string-from Machine.reading Machine.one-used Machine.printed Machine.peek Machine.poke Machine.pushed Machine.resulting Machine.pairs Machine.jumped Machine.taken Machine.written Machine.quoted Machine.does Machine.decoded Machine.fetched Machine.step Machine.run Machine.report Machine.bad-table Machine.whole-run Machine.stack-after Machine.room-after
     Layout.size Layout.code Layout.program-code Layout.need Layout.program-need
     Compiled.short-enough Compiled.code-of-text Compiled.at-most Compiled.measured Compiled.judged Compiled.compiled Compiled.report Compiled.filled Compiled.table-after
-    Examples.ran Examples.judged Examples.yields
+    Examples.ran Examples.weighed Examples.yields
     in refl
 
 pub yield-as-expected-spec : {M : Type 1} → statement M

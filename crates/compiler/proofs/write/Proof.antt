@@ -5,10 +5,10 @@ use Rattle.compiler.proofs.write.Statement.{statement}
 use Rattle.compiler.proofs.write.Tie as tie
 
 returns : tie.Need-returns
-returns c = not-written _ _ _ _ _ _ _ (rw (c .before .before .before .before .before .before .before .before .«open» .ensures) at (c .before .before .before .before .program .ensures)) (c .enum-told .given .1)
+returns c = not-written _ _ _ _ _ _ _ (rw (c .before .before .before .before .before .before .before .before .put-cells .ensures) at (c .before .before .before .before .program .ensures)) (c .enum-told .given .1)
 
 returns-2 : tie.Need-returns-2
-returns-2 c = rw (c .before .put .ensures) (written _ _ _ _ _ _ _ (rw (c .before .before .before .before .before .before .before .before .before .before .before .before .«open» .ensures) at (c .before .before .before .before .before .before .before .before .program .ensures)) (c .before .before .before .before .r .given .1))
+returns-2 c = rw (c .before .put .ensures) (written _ _ _ _ _ _ _ (rw (c .before .before .before .before .before .before .before .before .before .before .before .before .put-cells .ensures) at (c .before .before .before .before .before .before .before .before .program .ensures)) (c .before .before .before .before .r .given .1))
 
 pub write-spec : {M : Type 1} → statement M
 write-spec =

@@ -4,13 +4,13 @@ use mathlib.Core.Path.{_≡_, refl, sym, _∙_}
 use native.Mathlib.Omega.{arith}
 use borrow.Author.Needs.{needs}
 use lib.ListN.{length}
-use Rattle.names.specs.Held.{held, visible-in, found}
+use Rattle.names.specs.Held.{held, visible-in, latest}
 use Rattle.names.proofs.Found.{found-room, found-none, found-last, found-before}
 use Rattle.names.proofs.look_up.Statement.{statement}
 use Rattle.names.proofs.look_up.Tie as tie
 
 abbrev Inv-loop : tie.InvT-loop
-Inv-loop text names p e word k₀ k = (k ≤ length names / 4) × (found (visible-in text names k) word ≡ found (visible-in text names k₀) word)
+Inv-loop text names p e word k₀ k = (k ≤ length names / 4) × (latest (visible-in text names k) word ≡ latest (visible-in text names k₀) word)
 
 abbrev μ-loop : tie.MeasureT-loop
 μ-loop text names p e word k₀ k = k

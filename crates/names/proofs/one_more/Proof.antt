@@ -1,16 +1,16 @@
 -- `names::one_more` meets its contract. Assumes nothing.
 use native.Mathlib.Omega.{arith}
-use Rattle.names.specs.Held.{counted}
+use Rattle.names.specs.Held.{one-up}
 use borrow.Author.Needs.{needs}
 use Rattle.names.proofs.one_more.Statement.{statement}
 use Rattle.names.proofs.one_more.Tie as tie
 
 returns : tie.Need-returns
-unfolding counted
+unfolding one-up
 returns c = omega arith
 
 returns-2 : tie.Need-returns-2
-unfolding counted
+unfolding one-up
 returns-2 c = omega arith
 
 pub one-more-spec : {M : Type 1} → statement M

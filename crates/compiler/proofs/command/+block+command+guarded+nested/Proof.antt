@@ -9,7 +9,7 @@ use mir.Facts.{toZ-ofZ}
 use denote.Ref.{now}
 use lib.ListN.{length}
 use Rattle.lexeme.specs.Coded.{code-of}
-use Rattle.compiler.specs.Steps.{one-more, in-scope, Expects, before-body, opened-walk, closed-walk}
+use Rattle.compiler.specs.Steps.{one-instruction, in-scope, Expects, before-body, opened-walk, closed-walk}
 use Rattle.compiler.specs.Walks.{Reads, want-nested}
 use Rattle.compiler.proofs.Bodies.{not-name, lost-ahead, crossed, First, ready-first, reads-begun, error-done, ready-inside, Headed, head-small, ready-headed, body-leads, Bodied, body-small, end-small, guarded-read, so-far-one, so-far-more, so-far-closed, More}
 use Rattle.compiler.proofs.Commands.{command-way, guarded-way, block-so-far, guarded-refused, no-body, block-first, block-more, begins-assign, begins-declare, begins-print, begins-line, begins-string, begins-read, begins-nested, too-deep-begun, no-command}
@@ -267,7 +267,7 @@ guarded-same-length-6 : (t : ℕ) → guarded-lts.Need-same-length-6 (guarded-ca
 guarded-same-length-6 t c = c .before .before .before .before .before .command .kept .1 .1 .1 .0 ∙ c .before .before .before .before .before .before .before .before .before .before .before .before .before .before .before .before .before .before .condition .kept .1 .1 .1 .0
 
 guarded-returns-3 : (t : ℕ) → guarded-lts.Need-returns-3 (guarded-calls t) (guarded-at t) guarded.Post
-unfolding Reads one-more
+unfolding Reads one-instruction
 guarded-returns-3 t c = rw (c .enum-told3 .given .1) (body-leads (guarded-head t (c .before .before .before .before .before .before .before .before .before .before)) .refuses _ _ (rw (c .before .before .before .before .before .before .skipped .ensures, c .enum-told3 .given .1) at (c .before .before .before .before .before .command .ensures)))
 
 -- and the body

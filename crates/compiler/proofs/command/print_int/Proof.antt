@@ -3,7 +3,7 @@ use borrow.Author.Needs.{needs}
 use mathlib.Core.Path.{refl}
 use denote.Ref.{now}
 use Rattle.sentence.specs.Sentences.{print}
-use Rattle.compiler.specs.Steps.{one-more}
+use Rattle.compiler.specs.Steps.{one-instruction}
 use Rattle.compiler.specs.Walks.{Reads}
 use Rattle.compiler.proofs.Commands.{print-way, print-leads}
 use Rattle.compiler.proofs.Lays.{lays-print}
@@ -24,7 +24,7 @@ emitted-requires : tie.Need-emitted-requires
 emitted-requires c κs = counts-got (c .before .before .before .before .before .before .before .before .before .pre) (value (c .before .before)) .0
 
 returns-2 : tie.Need-returns-2
-unfolding one-more
+unfolding one-instruction
 returns-2 c =
     let g = value (c .before .before .before .before) in
     rw (c .before .emitted .ensures .0, c .before .emitted .ensures .1)

@@ -1,7 +1,7 @@
 -- `compiler::command::print_string` meets its contract. Assumes nothing.
 use borrow.Author.Needs.{needs}
 use mir.Facts.{toZ-ofZ}
-use Rattle.compiler.specs.Steps.{one-more}
+use Rattle.compiler.specs.Steps.{one-instruction}
 use Rattle.compiler.specs.Walks.{Reads}
 use Rattle.compiler.proofs.Bodies.{not-string, printed}
 use Rattle.compiler.proofs.Commands.{no-quoted}
@@ -16,7 +16,7 @@ cast-s : tie.Need-cast-s
 cast-s c = search needs
 
 advance-requires : tie.Need-advance-requires
-unfolding one-more
+unfolding one-instruction
 advance-requires c κs = rw (c .before .emitted .ensures .0) (c .before .before .before .before .before .before .before .before .before .before .pre .stands .within)
 
 returns-2 : tie.Need-returns-2

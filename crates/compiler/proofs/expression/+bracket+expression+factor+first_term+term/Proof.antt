@@ -24,7 +24,7 @@ use Rattle.compiler.specs.declared.walk.Walk.{Walk}
 use Rattle.compiler.specs.declared.walk.Gives.{Gives}
 use Rattle.compiler.specs.declared.walk.Read.{Read}
 use Rattle.compiler.specs.declared.walk.Read.the-variants.{Done, Refused}
-use Rattle.compiler.specs.Steps.{moved-to, one-more, noted-walk, cell-of, cell-number, operand-of, Past, Advances, Expects}
+use Rattle.compiler.specs.Steps.{moved-to, one-instruction, noted-walk, cell-of, cell-number, operand-of, Past, Advances, Expects}
 use Rattle.compiler.specs.Tables.{put}
 use Rattle.compiler.specs.Walks.{Reads, Reads-factor, Ready, Lays, name-of}
 use Rattle.compiler.proofs.Lays.{trail, lead, lays-literal, lays-bracket, lays-first, lays-unsigned, lays-signed-plus, lays-signed-minus}
@@ -100,8 +100,8 @@ one-read text names table w allow r names′ table′ n h = let e : suc (allow -
 
 -- an operand ahead: its instruction is written, and it is passed
 module _ {text names : List ℕ} (table : List ℤ) {table′ : List ℤ} {w x : Walk} {allow : ℕ} (ready : Ready text names w allow) where
-  literal-read : {v : ℕ} {z : ℤ} → w .next .kind ≡ kind.Literal v → x ≡ one-more w → z ≡ pos (operand-of v) → table′ ≡ put table (w .code) (pos 2 ∷ z ∷ []) → (r : Read) → Advances text x 1 r → Reads-factor text names table w allow r names table′
-  unfolding Reads one-more
+  literal-read : {v : ℕ} {z : ℤ} → w .next .kind ≡ kind.Literal v → x ≡ one-instruction w → z ≡ pos (operand-of v) → table′ ≡ put table (w .code) (pos 2 ∷ z ∷ []) → (r : Read) → Advances text x 1 r → Reads-factor text names table w allow r names table′
+  unfolding Reads one-instruction
   literal-read {v} h e o t (Done u g) a =
       let p = subst (λ (y : Walk). Past text y u) e (past text x 1 a refl) in (
         S.literal (operand-of v),
@@ -112,8 +112,8 @@ module _ {text names : List ℕ} (table : List ℤ) {table′ : List ℤ} {w x :
   literal-read h e o t (Refused why p) a = lost-first factor-way text (w .next) allow (literal-goes (w .next) h) (rw e at (unread text x 1 a refl))
 
   variable-read : w .next .kind ≡ kind.Name → let c = cell-of text names w (w .next) in
-      x ≡ one-more (noted-walk c w (w .next .place)) → table′ ≡ put table (w .code) (pos 3 ∷ pos (cell-number c) ∷ []) → (r : Read) → Advances text x 1 r → Reads-factor text names table w allow r names table′
-  unfolding Reads one-more
+      x ≡ one-instruction (noted-walk c w (w .next .place)) → table′ ≡ put table (w .code) (pos 3 ∷ pos (cell-number c) ∷ []) → (r : Read) → Advances text x 1 r → Reads-factor text names table w allow r names table′
+  unfolding Reads one-instruction
   variable-read h e t (Done u g) a =
       let c = cell-of text names w (w .next) in
       let p = subst (λ (y : Walk). Past text y u) e (past text x 1 a refl) in
@@ -163,15 +163,15 @@ module _ {text names : List ℕ} {table table′ : List ℤ} {w x v : Walk} {all
   after-sign : Lays text names table (moved-to w (x .next)) (b .what) names table′ v g
   after-sign = subst (λ (y : Walk). Lays text names table y (b .what) names table′ v g) (p .moved) (b .laid)
 
-  minus-got : fixed-number (w .next .kind) ≡ 45 → Got first-term-way text names table w allow names (put table′ (v .code) (pos 14 ∷ pos 0 ∷ [])) (one-more v) g
-  unfolding one-more
+  minus-got : fixed-number (w .next .kind) ≡ 45 → Got first-term-way text names table w allow names (put table′ (v .code) (pos 14 ∷ pos 0 ∷ [])) (one-instruction v) g
+  unfolding one-instruction
   minus-got h = record {
     what = S.signed (o .which) (b .what);
     passed = signed-leads (ready .stands) allow o (p .follows) .passes (b .what) (b .passed);
     laid = by (o .which) (sym (o .number) ∙ h);
   }
     where
-      by : (s : Sign) → number-of (sign s) ≡ 45 → Lays text names table w (S.signed s (b .what)) names (put table′ (v .code) (pos 14 ∷ pos 0 ∷ [])) (one-more v) g
+      by : (s : Sign) → number-of (sign s) ≡ 45 → Lays text names table w (S.signed s (b .what)) names (put table′ (v .code) (pos 14 ∷ pos 0 ∷ [])) (one-instruction v) g
       by plus e = absurd (plus-not-minus e)
       by minus e = lays-signed-minus (x .next) sign-later after-sign
 
@@ -310,7 +310,7 @@ expression-add-larger : (t : ℕ) → expression-lts.Need-add-larger (expression
 expression-add-larger t c = omega (arith, counts-got (ready-past (ready-got (c .before .before .before .before .before .before .before .before .before .before .before .before .before .before .before .before .before .before .before .before .before .before .before .before .before .before .before .pre .1) (expression-now t (c .before .before .before .before .before .before .before .before .before .before .before .before .before .before .before .before .before .before))) _ (le-refl _) (past _ _ _ (c .before .before .before .before .before .before .before .before .before .before .before .before .before .before .advance .ensures) (c .before .before .before .before .before .before .before .before .before .before .before .before .a .given .1))) (got term-way (c .before .before .before .before .before .before .r .given .1) (c .before .before .before .before .before .before .before .before .before .term .ensures)) .1)
 
 expression-loop-less : (t : ℕ) → expression-lts.Need-loop-less (expression-calls t) (expression-at t) expression.Post expression-Inv-loop expression-μ-loop
-unfolding one-more
+unfolding one-instruction
 expression-loop-less t c = rw (c .before .before .before .emitted .ensures .0) (omega (arith, right-later expression-joins (expression-now t (c .before .before .before .before .before .before .before .before .before .before .before .before .before .before .before .before .before .before .before)) (c .before .before .before .before .before .before .before .before .before .before .before .before .before .before .before .before .before .before .fixed-ahead .ensures) (sym (c .before .before .before .before .before .before .before .before .before .before .before .before .before .before .before .before .before .is-sign .ensures) ∙ flag-on _ (c .before .before .before .before .before .before .before .before .before .before .before .before .before .before .before .before .if1 .left)) (past _ _ _ (c .before .before .before .before .before .before .before .before .before .before .before .before .before .before .before .advance .ensures) (c .before .before .before .before .before .before .before .before .before .before .before .before .before .a .given .1)) (got term-way (c .before .before .before .before .before .before .before .r .given .1) (c .before .before .before .before .before .before .before .before .before .before .term .ensures)) .0, right-later expression-joins (expression-now t (c .before .before .before .before .before .before .before .before .before .before .before .before .before .before .before .before .before .before .before)) (c .before .before .before .before .before .before .before .before .before .before .before .before .before .before .before .before .before .before .fixed-ahead .ensures) (sym (c .before .before .before .before .before .before .before .before .before .before .before .before .before .before .before .before .before .is-sign .ensures) ∙ flag-on _ (c .before .before .before .before .before .before .before .before .before .before .before .before .before .before .before .before .if1 .left)) (past _ _ _ (c .before .before .before .before .before .before .before .before .before .before .before .before .before .before .before .advance .ensures) (c .before .before .before .before .before .before .before .before .before .before .before .before .before .a .given .1)) (got term-way (c .before .before .before .before .before .before .before .r .given .1) (c .before .before .before .before .before .before .before .before .before .before .term .ensures)) .1 .order, right-later expression-joins (expression-now t (c .before .before .before .before .before .before .before .before .before .before .before .before .before .before .before .before .before .before .before)) (c .before .before .before .before .before .before .before .before .before .before .before .before .before .before .before .before .before .before .fixed-ahead .ensures) (sym (c .before .before .before .before .before .before .before .before .before .before .before .before .before .before .before .before .before .is-sign .ensures) ∙ flag-on _ (c .before .before .before .before .before .before .before .before .before .before .before .before .before .before .before .before .if1 .left)) (past _ _ _ (c .before .before .before .before .before .before .before .before .before .before .before .before .before .before .before .advance .ensures) (c .before .before .before .before .before .before .before .before .before .before .before .before .before .a .given .1)) (got term-way (c .before .before .before .before .before .before .before .r .given .1) (c .before .before .before .before .before .before .before .before .before .before .term .ensures)) .1 .within))
 
 expression-loop-again : (t : ℕ) → expression-lts.Need-loop-again (expression-calls t) (expression-at t) expression.Post expression-Inv-loop expression-μ-loop
@@ -320,14 +320,14 @@ factor-emitted-requires : (t : ℕ) → factor-lts.Need-emitted-requires (factor
 factor-emitted-requires t c κs = code-fits (c .before .before .before .before .before .before .before .before .pre .1)
 
 factor-advance-requires : (t : ℕ) → factor-lts.Need-advance-requires (factor-calls t) (factor-at t) factor.Post
-unfolding one-more
+unfolding one-instruction
 factor-advance-requires t c κs = rw (c .before .emitted .ensures .0) (c .before .before .before .before .before .before .before .before .before .before .pre .1 .stands .within)
 
 factor-used-requires : (t : ℕ) → factor-lts.Need-used-requires (factor-calls t) (factor-at t) factor.Post
 factor-used-requires t c κs = code-fits (c .before .before .before .before .before .before .pre .1)
 
 factor-advance-requires-2 : (t : ℕ) → factor-lts.Need-advance-requires-2 (factor-calls t) (factor-at t) factor.Post
-unfolding one-more
+unfolding one-instruction
 factor-advance-requires-2 t c κs = rw (c .before .used .ensures .0, noted-is) (c .before .before .before .before .before .before .before .before .pre .1 .stands .within)
 
 factor-returns : (t : ℕ) → factor-lts.Need-returns (factor-calls t) (factor-at t) factor.Post
@@ -421,7 +421,7 @@ term-add-larger : (t : ℕ) → term-lts.Need-add-larger (term-calls t) (term-at
 term-add-larger t c = omega (arith, counts-got (ready-past (ready-got (c .before .before .before .before .before .before .before .before .before .before .before .before .before .before .before .before .before .before .before .before .before .before .before .before .before .before .before .pre .1) (term-now t (c .before .before .before .before .before .before .before .before .before .before .before .before .before .before .before .before .before .before))) _ (le-refl _) (past _ _ _ (c .before .before .before .before .before .before .before .before .before .before .before .before .before .before .advance .ensures) (c .before .before .before .before .before .before .before .before .before .before .before .before .a .given .1))) (got factor-way (c .before .before .before .before .before .before .r .given .1) (c .before .before .before .before .before .before .before .before .before .factor2 .ensures)) .1)
 
 term-loop-less : (t : ℕ) → term-lts.Need-loop-less (term-calls t) (term-at t) term.Post term-Inv-loop term-μ-loop
-unfolding one-more
+unfolding one-instruction
 term-loop-less t c = rw (c .before .before .before .emitted .ensures .0) (omega (arith, right-later term-joins (term-now t (c .before .before .before .before .before .before .before .before .before .before .before .before .before .before .before .before .before .before .before)) (c .before .before .before .before .before .before .before .before .before .before .before .before .before .before .before .before .before .before .fixed-ahead .ensures) (sym (c .before .before .before .before .before .before .before .before .before .before .before .before .before .before .before .before .before .is-mul .ensures) ∙ flag-on _ (c .before .before .before .before .before .before .before .before .before .before .before .before .before .before .before .before .if1 .left)) (past _ _ _ (c .before .before .before .before .before .before .before .before .before .before .before .before .before .before .before .advance .ensures) (c .before .before .before .before .before .before .before .before .before .before .before .before .before .a .given .1)) (got factor-way (c .before .before .before .before .before .before .before .r .given .1) (c .before .before .before .before .before .before .before .before .before .before .factor2 .ensures)) .0, right-later term-joins (term-now t (c .before .before .before .before .before .before .before .before .before .before .before .before .before .before .before .before .before .before .before)) (c .before .before .before .before .before .before .before .before .before .before .before .before .before .before .before .before .before .before .fixed-ahead .ensures) (sym (c .before .before .before .before .before .before .before .before .before .before .before .before .before .before .before .before .before .is-mul .ensures) ∙ flag-on _ (c .before .before .before .before .before .before .before .before .before .before .before .before .before .before .before .before .if1 .left)) (past _ _ _ (c .before .before .before .before .before .before .before .before .before .before .before .before .before .before .before .advance .ensures) (c .before .before .before .before .before .before .before .before .before .before .before .before .before .a .given .1)) (got factor-way (c .before .before .before .before .before .before .before .r .given .1) (c .before .before .before .before .before .before .before .before .before .before .factor2 .ensures)) .1 .order, right-later term-joins (term-now t (c .before .before .before .before .before .before .before .before .before .before .before .before .before .before .before .before .before .before .before)) (c .before .before .before .before .before .before .before .before .before .before .before .before .before .before .before .before .before .before .fixed-ahead .ensures) (sym (c .before .before .before .before .before .before .before .before .before .before .before .before .before .before .before .before .before .is-mul .ensures) ∙ flag-on _ (c .before .before .before .before .before .before .before .before .before .before .before .before .before .before .before .before .if1 .left)) (past _ _ _ (c .before .before .before .before .before .before .before .before .before .before .before .before .before .before .before .advance .ensures) (c .before .before .before .before .before .before .before .before .before .before .before .before .before .a .given .1)) (got factor-way (c .before .before .before .before .before .before .before .r .given .1) (c .before .before .before .before .before .before .before .before .before .before .factor2 .ensures)) .1 .within))
 
 term-loop-again : (t : ℕ) → term-lts.Need-loop-again (term-calls t) (term-at t) term.Post term-Inv-loop term-μ-loop

@@ -13,7 +13,7 @@ use Rattle.lexeme.specs.Coded.{code-of, fixed-number}
 use Rattle.sentence.specs.Sentences.{negated}
 use Rattle.compiler.specs.declared.walk.Walk.{Walk}
 use Rattle.compiler.specs.declared.walk.Gives.{Gives}
-use Rattle.compiler.specs.Steps.{one-more, Past}
+use Rattle.compiler.specs.Steps.{one-instruction, Past}
 use Rattle.compiler.specs.Tables.{put}
 use Rattle.compiler.specs.Walks.{Reads, Ready, Lays}
 use Rattle.compiler.proofs.Lays.{lays-negated}
@@ -32,8 +32,8 @@ use Rattle.compiler.proofs.expression.+condition.Tie.{close}
 
 -- NOT was passed, and a condition read
 negated-got : {text names : List ℕ} {table table′ : List ℤ} {w x v : Walk} {allow : ℕ} {g : Gives} → Ready text names w allow → fixed-number (w .next .kind) ≡ code-of NOT → (allow ≡ 0 → ⊥) → Past text w x → Got condition-way text names table x (allow - 1) names table′ v g →
-    Got condition-way text names table w allow names (put table′ (v .code) (pos 15 ∷ pos 0 ∷ [])) (one-more v) g
-unfolding one-more code-of
+    Got condition-way text names table w allow names (put table′ (v .code) (pos 15 ∷ pos 0 ∷ [])) (one-instruction v) g
+unfolding one-instruction code-of
 negated-got {text} {names} {table} {table′} {w} {x} {v} {allow} {g} ready h n p b = record {
   what = negated (b .what);
   passed = negated-leads (ready .stands) allow h n (p .follows) .passes (b .what) (b .passed);

@@ -1,12 +1,12 @@
 -- `compiler::walk::skipped` meets its contract. Assumes nothing.
 use mathlib.Core.Path.{refl}
-use Rattle.compiler.specs.Steps.{one-more}
+use Rattle.compiler.specs.Steps.{one-instruction}
 use borrow.Author.Needs.{needs}
 use Rattle.compiler.proofs.walk.skipped.Statement.{statement}
 use Rattle.compiler.proofs.walk.skipped.Tie as tie
 
 returns : tie.Need-returns
-unfolding one-more
+unfolding one-instruction
 returns c = refl
 
 pub skipped-spec : {M : Type 1} → statement M

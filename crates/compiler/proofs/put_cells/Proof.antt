@@ -1,4 +1,4 @@
--- `compiler::open` meets its contract: what is left to write makes the table what it is to be. Assumes nothing.
+-- `compiler::put_cells` meets its contract: what is left to write makes the table what it is to be. Assumes nothing.
 use Prim.Native.Nat.{_-_, _≤_}
 use mathlib.Core.Path.{_≡_, refl, _∙_}
 use native.Mathlib.Nat.{sub-zero}
@@ -9,8 +9,8 @@ use lib.ListN.{length, replicate}
 use Rattle.instruction.specs.Instructions.{push-int, pair}
 use Rattle.compiler.specs.Tables.{emit, opening}
 use Rattle.compiler.proofs.Stores.{emit-on, emit-out}
-use Rattle.compiler.proofs.open.Statement.{statement}
-use Rattle.compiler.proofs.open.Tie as tie
+use Rattle.compiler.proofs.put_cells.Statement.{statement}
+use Rattle.compiler.proofs.put_cells.Tie as tie
 
 abbrev Inv-loop : tie.InvT-loop
 Inv-loop table₀ cells i₀ table i = (i ≤ cells) × (length table ≡ length table₀) × (emit table i (replicate (cells - i) (push-int (pos 0))) ≡ opening cells table₀)
@@ -29,8 +29,8 @@ loop-again c = (omega arith, search needs, rw (c .before .put .ensures) (emit-on
 returns : tie.Need-returns Inv-loop μ-loop
 returns c = emit-out (push-int (pos 0)) (c .before .loop .table) (c .before .before .args .cells) (c .before .loop .i) (omega arith) ∙ c .before .loop .inv .2
 
-pub open-spec : {M : Type 1} → statement M
-open-spec =
+pub put-cells-spec : {M : Type 1} → statement M
+put-cells-spec =
     tie.close
     (tie.spec
     Inv-loop
