@@ -31,7 +31,7 @@ pub short-counted : (label : String) (n : ℕ) → Small n → length (counted l
 unfolding counted
 short-counted label n h = omega (arith, length-append (bytes label) (decimal (pos n)), short-natural n h)
 
-small-number : (why : Refusal) → number why ≤ 8
+pub small-number : (why : Refusal) → number why ≤ 8
 unfolding number
 small-number TooLong = omega arith
 small-number NoLexeme = omega arith

@@ -5,9 +5,11 @@ use Prim.Native.Nat.{ℕ, _+_, _≤_}
 use native.Mathlib.Omega.{arith}
 use lib.Dec.{eqb}
 use lib.ListN.{length, length-append}
+use Rattle.base.specs.declared.Refusal.{Refusal}
+use Rattle.base.specs.Answers.{number}
 use Rattle.base.specs.Bytes.{bytes, bytes-from}
 use Rattle.machine.specs.Machine.{Report}
-use Rattle.lines.proofs.Short.{Small, short-counted}
+use Rattle.lines.proofs.Short.{Small, small-number, short-counted}
 use Rattle.place.specs.Places.{spot}
 use Rattle.place.specs.Shown.{Widths, marked-line}
 use Rattle.words.proofs.Short.{Fit, short-why, short-how}
@@ -19,9 +21,9 @@ module _ (w : Widths) (text : List ℕ) (place : ℕ) where
   unfolding at-place bytes bytes-from
   short-place h i few = simp length-append (omega (arith, short-counted ", line " (spot text place .line) h, short-counted ", column " (spot text place .column) i))
 
-  pub short-refusal : (n : Numbers) (number : ℕ) → Fit n → Small number → length (cond (has-place number) (at-place w text place) (bytes ":\n")) ≤ 227 → length (shown-refusal w n text number place) ≤ 512
+  pub short-refusal : (n : Numbers) (r : Refusal) → Fit n → length (cond (has-place r) (at-place w text place) (bytes ":\n")) ≤ 227 → length (shown-refusal w n text r place) ≤ 512
   unfolding shown-refusal bytes bytes-from
-  short-refusal n number fit h few = simp length-append (omega (arith, short-counted "refusal " number h, short-why n fit text number place))
+  short-refusal n r fit few = simp length-append (omega (arith, short-counted "refusal " (number r) (omega (arith, small-number r)), short-why n fit text r place))
 
 short-output : (output : List ℕ) → length (shown-output output) ≤ length output + 21
 unfolding shown-output bytes bytes-from

@@ -4,7 +4,6 @@ use mathlib.Core.List.{List, []}
 use Prim.Native.Nat.{ℕ, _≤_}
 use lib.ListN.{length, take}
 use Rattle.base.specs.declared.Refusal.{Refusal}
-use Rattle.base.specs.Answers.{number}
 use Rattle.machine.specs.declared.Report as Code
 use Rattle.lines.specs.Added.{Added}
 use Rattle.place.specs.Shown.{Widths}
@@ -17,7 +16,7 @@ use Rattle.programs.proofs.Pages.{said-bytes, said-page, untouched}
 use Rattle.pupil.specs.Shows.{shown-refusal, shown-run, shown}
 
 module _ (w : Widths) (n : Numbers) (text room : List ℕ) {page page′ : List ℕ} {end : ℕ} {c : Came} where
-  pub shown-refused : {why : Refusal} {place : ℕ} → c ≡ came.Refused why place → length (shown-refusal w n text (number why) place) ≤ length page → Added (shown-refusal w n text (number why) place) page 0 page′ end → Says (shown w n text (with-output c room)) (record { out = end; err = 0; status = 1 }) page page′ [] []
+  pub shown-refused : {why : Refusal} {place : ℕ} → c ≡ came.Refused why place → length (shown-refusal w n text why place) ≤ length page → Added (shown-refusal w n text why place) page 0 page′ end → Says (shown w n text (with-output c room)) (record { out = end; err = 0; status = 1 }) page page′ [] []
   unfolding shown with-output
   shown-refused is short a = rw is (record { written = said-bytes a short; page = said-page a short; noted = refl; note = untouched []; status = refl })
 

@@ -1,10 +1,12 @@
 -- For a pupil: where the text was refused, its line with a mark under the place, and why; or the output, and how the run ended.
-use mathlib.Core.Bool.{Bool, cond, not, _||_}
+use mathlib.Core.Bool.{Bool, true, false, cond}
 use mathlib.Core.List.{List, [], _++_}
 use Prim.Native.Nat.{ℕ}
 use lib.Dec.{eqb}
 use lib.ListN.{length}
 use Rattle.limits.specs.Limits.{Limits, Station}
+use Rattle.base.specs.declared.Refusal.{Refusal}
+use Rattle.base.specs.declared.Refusal.the-variants.{TooLong, NoLexeme, TooLarge, NoProgram, TooDeep, Undeclared, TooManyDeclared, TooMuchCode}
 use Rattle.base.specs.Answers.{Answer, given, refused, number}
 use Rattle.base.specs.Bytes.{bytes}
 use Rattle.machine.specs.Machine.{Report}
@@ -15,16 +17,23 @@ use Rattle.words.specs.Words.{why, how}
 use Rattle.words.specs.declared.Numbers.{Numbers}
 use Rattle.programs.specs.Programs.{Said, not-good, status-of, came-on}
 
--- refusals 1 and 8 are of the whole text, and their place 0 says nothing
-unfoldable pub has-place : ℕ → Bool
-has-place k = not (eqb k 1 || eqb k 8)
+-- a text too long and too much code are of the whole text, and their place 0 says nothing
+unfoldable pub has-place : Refusal → Bool
+has-place TooLong = false
+has-place NoLexeme = true
+has-place TooLarge = true
+has-place NoProgram = true
+has-place TooDeep = true
+has-place Undeclared = true
+has-place TooManyDeclared = true
+has-place TooMuchCode = false
 
 unfoldable pub at-place : Widths → List ℕ → ℕ → List ℕ
 at-place w text place = counted ", line " (spot text place .line) ++ counted ", column " (spot text place .column) ++ bytes ":\n" ++ marked-line w text place
 
-unfoldable pub shown-refusal : Widths → Numbers → List ℕ → ℕ → ℕ → List ℕ
-shown-refusal w n text k place =
-    counted "refusal " k ++ cond (has-place k) (at-place w text place) (bytes ":\n") ++ why n text k place ++ line-end
+unfoldable pub shown-refusal : Widths → Numbers → List ℕ → Refusal → ℕ → List ℕ
+shown-refusal w n text r place =
+    counted "refusal " (number r) ++ cond (has-place r) (at-place w text place) (bytes ":\n") ++ why n text r place ++ line-end
 
 unfoldable pub shown-output : List ℕ → List ℕ
 shown-output output = cond (eqb (length output) 0) (bytes "(nothing was printed)") output
@@ -37,7 +46,7 @@ shown-run n r = shown-output (r .output) ++ steps-taken (r .ending) (r .steps) (
 
 unfoldable pub shown : Widths → Numbers → List ℕ → Answer Report → Said
 shown w n text (given r) = record { out = shown-run n r; err = []; status = status-of (r .ending) }
-shown w n text (refused r place) = record { out = shown-refusal w n text (number r) place; err = []; status = not-good }
+shown w n text (refused r place) = record { out = shown-refusal w n text r place; err = []; status = not-good }
 
 unfoldable pub show : Limits → Station → Widths → Numbers → List ℕ → List ℕ → Said
 show limits s w n text input = shown w n text (came-on limits s text input)

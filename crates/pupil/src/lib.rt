@@ -8,6 +8,7 @@ ghost use Rattle.base.specs.Bytes.{bytes};
 ghost use Rattle.lines.specs.Added.{Added};
 ghost use Rattle.programs.specs.Says.{Says, with-output};
 ghost use Rattle.pupil.specs.Shows.{has-place, at-place, shown-refusal, shown-output, steps-taken, shown-run, shown};
+use base::Refusal;
 use limits::Station;
 use machine::Report;
 use place::Window;
@@ -18,13 +19,13 @@ use words::Numbers;
 // Room for what is said of a run, or of a refusal.
 pub const SHOWN: usize = Station::ROOM + 512;
 
-fn has_place(number: u8) -> bool
-    ensures { λ r. ⌜ r ≡ has-place number ⌝ }
+fn has_place(why: Refusal) -> bool
+    ensures { λ r. ⌜ r ≡ has-place why ⌝ }
 {
-    if number == 1 {
-        return false;
+    match why {
+        Refusal::TooLong | Refusal::TooMuchCode => false,
+        _ => true,
     }
-    number != 8
 }
 
 // Line, column, and the line with a mark under the place.
@@ -39,23 +40,23 @@ fn put_place(page: &mut [u8], at: usize, text: &[u8], place: usize) -> usize
     place::put_marked_line(page, c, text, place)
 }
 
-fn put_where(page: &mut [u8], at: usize, text: &[u8], number: u8, place: usize) -> usize
-    ensures { λ r. do ⌜ Added (cond (has-place number) (at-place (record { whole = (← ⟦Window::WHOLE⟧ .entry); last = (← ⟦Window::LAST⟧ .entry); next = (← ⟦Window::NEXT⟧ .entry); rest = (← ⟦Window::REST⟧ .entry) }) (now (text .entry)) place) (bytes ":\n")) (now (page .entry)) at (now (page .exit)) r ⌝ }
-    ensures { λ _. do ⌜ length (cond (has-place number) (at-place (record { whole = (← ⟦Window::WHOLE⟧ .entry); last = (← ⟦Window::LAST⟧ .entry); next = (← ⟦Window::NEXT⟧ .entry); rest = (← ⟦Window::REST⟧ .entry) }) (now (text .entry)) place) (bytes ":\n")) ≤ 227 ⌝ }
+fn put_where(page: &mut [u8], at: usize, text: &[u8], why: Refusal, place: usize) -> usize
+    ensures { λ r. do ⌜ Added (cond (has-place why) (at-place (record { whole = (← ⟦Window::WHOLE⟧ .entry); last = (← ⟦Window::LAST⟧ .entry); next = (← ⟦Window::NEXT⟧ .entry); rest = (← ⟦Window::REST⟧ .entry) }) (now (text .entry)) place) (bytes ":\n")) (now (page .entry)) at (now (page .exit)) r ⌝ }
+    ensures { λ _. do ⌜ length (cond (has-place why) (at-place (record { whole = (← ⟦Window::WHOLE⟧ .entry); last = (← ⟦Window::LAST⟧ .entry); next = (← ⟦Window::NEXT⟧ .entry); rest = (← ⟦Window::REST⟧ .entry) }) (now (text .entry)) place) (bytes ":\n")) ≤ 227 ⌝ }
 {
-    if has_place(number) {
+    if has_place(why) {
         return put_place(page, at, text, place);
     }
     lines::put(page, at, b":\n")
 }
 
-fn put_refusal(page: &mut [u8], n: Numbers, text: &[u8], number: u8, place: usize) -> usize
-    ensures { λ r. do ⌜ Added (shown-refusal (record { whole = (← ⟦Window::WHOLE⟧ .entry); last = (← ⟦Window::LAST⟧ .entry); next = (← ⟦Window::NEXT⟧ .entry); rest = (← ⟦Window::REST⟧ .entry) }) n (now (text .entry)) number place) (now (page .entry)) 0 (now (page .exit)) r ⌝ }
-    ensures { λ _. do ⌜ length (shown-refusal (record { whole = (← ⟦Window::WHOLE⟧ .entry); last = (← ⟦Window::LAST⟧ .entry); next = (← ⟦Window::NEXT⟧ .entry); rest = (← ⟦Window::REST⟧ .entry) }) n (now (text .entry)) number place) ≤ 512 ⌝ }
+fn put_refusal(page: &mut [u8], n: Numbers, text: &[u8], why: Refusal, place: usize) -> usize
+    ensures { λ r. do ⌜ Added (shown-refusal (record { whole = (← ⟦Window::WHOLE⟧ .entry); last = (← ⟦Window::LAST⟧ .entry); next = (← ⟦Window::NEXT⟧ .entry); rest = (← ⟦Window::REST⟧ .entry) }) n (now (text .entry)) why place) (now (page .entry)) 0 (now (page .exit)) r ⌝ }
+    ensures { λ _. do ⌜ length (shown-refusal (record { whole = (← ⟦Window::WHOLE⟧ .entry); last = (← ⟦Window::LAST⟧ .entry); next = (← ⟦Window::NEXT⟧ .entry); rest = (← ⟦Window::REST⟧ .entry) }) n (now (text .entry)) why place) ≤ 512 ⌝ }
 {
-    let a = lines::put_counted(page, 0, b"refusal ", number as u64);
-    let b = put_where(page, a, text, number, place);
-    let c = words::put_why(page, b, n, text, number, place);
+    let a = lines::put_counted(page, 0, b"refusal ", base::number(why) as u64);
+    let b = put_where(page, a, text, why, place);
+    let c = words::put_why(page, b, n, text, why, place);
     lines::put(page, c, b"\n")
 }
 
@@ -99,7 +100,7 @@ pub fn show(
 {
     match c {
         Came::Refused(why, place) => Said {
-            out: put_refusal(page, n, text, base::number(why), place),
+            out: put_refusal(page, n, text, why, place),
             err: 0,
             status: programs::NOT_GOOD,
         },

@@ -6,9 +6,11 @@ use native.Mathlib.Omega.{arith}
 use lib.Dec.{eqb, leb}
 use lib.ListN.{length, length-append}
 use Rattle.base.specs.Bytes.{bytes, bytes-from, letter-or-digit, digit}
+use Rattle.base.specs.declared.Refusal.{Refusal}
+use Rattle.base.specs.declared.Refusal.the-variants.{TooLong, NoLexeme, TooLarge, NoProgram, TooDeep, Undeclared, TooManyDeclared, TooMuchCode}
 use Rattle.lines.specs.Lines.{counted}
 use Rattle.lines.proofs.Short.{Small, short-natural}
-use Rattle.words.specs.Words.{no-lexeme, too-large, cannot-stand, why-later, why, how-later, how}
+use Rattle.words.specs.Words.{no-lexeme, too-large, cannot-stand, why, how-later, how}
 use Rattle.words.specs.declared.Numbers.{Numbers}
 
 Brief : List ℕ → Type 0
@@ -47,22 +49,16 @@ module _ (n : Numbers) (fit : Fit n) where
       (either (digit b) _ _ (simp length-append (omega (arith, short-natural (n .literal) (fit .literal))))
       (simp length-append (omega (arith, short-natural (n .word) (fit .word)))))
 
-  short-why-later : (number : ℕ) → Brief (why-later n number)
-  unfolding why-later counted bytes bytes-from Brief
-  short-why-later number =
-      either (eqb number 5) _ _ (simp length-append (omega (arith, short-natural (n .nesting) (fit .nesting))))
-      (either (eqb number 6) _ _ (omega arith)
-      (either (eqb number 7) _ _ (simp length-append (omega (arith, short-natural (n .declarations) (fit .declarations))))
-      (simp length-append (omega (arith, short-natural (n .instructions) (fit .instructions))))))
-
-  pub short-why : (text : List ℕ) (number place : ℕ) → length (why n text number place) ≤ 160
+  pub short-why : (text : List ℕ) (refusal : Refusal) (place : ℕ) → length (why n text refusal place) ≤ 160
   unfolding why counted bytes bytes-from Brief
-  short-why text number place =
-      either (eqb number 1) _ _ (simp length-append (omega (arith, short-natural (n .text) (fit .text))))
-      (either (eqb number 2) _ _ (short-no-lexeme _)
-      (either (eqb number 3) _ _ (short-too-large _)
-      (either (eqb number 4) _ _ (short-cannot-stand _)
-      (short-why-later number))))
+  short-why text TooLong place = simp length-append (omega (arith, short-natural (n .text) (fit .text)))
+  short-why text NoLexeme place = short-no-lexeme _
+  short-why text TooLarge place = short-too-large _
+  short-why text NoProgram place = short-cannot-stand _
+  short-why text TooDeep place = simp length-append (omega (arith, short-natural (n .nesting) (fit .nesting)))
+  short-why text Undeclared place = omega arith
+  short-why text TooManyDeclared place = simp length-append (omega (arith, short-natural (n .declarations) (fit .declarations)))
+  short-why text TooMuchCode place = simp length-append (omega (arith, short-natural (n .instructions) (fit .instructions)))
 
   short-how-later : (ending : ℕ) → Brief (how-later n ending)
   unfolding how-later counted bytes bytes-from Brief

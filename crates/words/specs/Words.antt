@@ -6,12 +6,14 @@ use Prim.Native.Char.{code}
 use lib.Dec.{eqb, leb}
 use lib.ListN.{length, getD}
 use Rattle.base.specs.Bytes.{bytes, letter-or-digit, digit}
+use Rattle.base.specs.declared.Refusal.{Refusal}
+use Rattle.base.specs.declared.Refusal.the-variants.{TooLong, NoLexeme, TooLarge, NoProgram, TooDeep, Undeclared, TooManyDeclared, TooMuchCode}
 use Rattle.lines.specs.Lines.{counted}
 use Rattle.words.specs.declared.Numbers.{Numbers}
 
 -- ---- why a text is refused
 
--- 2, by the byte at the place
+-- no lexeme: by the byte at the place
 unfoldable pub no-lexeme : ℕ → List ℕ
 no-lexeme b =
     cond (eqb b (code "\"")) (bytes "This string is never closed. Is a quote missing at its end?")
@@ -20,33 +22,27 @@ no-lexeme b =
     (cond (leb 128 b) (bytes "O has only plain characters. Is this a quotation mark of another kind? A string stands between two of these: \"")
     (bytes "O does not use this character."))))
 
--- 3, likewise
+-- too large: likewise
 unfoldable pub too-large : Numbers → ℕ → List ℕ
 too-large n b =
     cond (eqb b (code "\"")) (counted "This string has more than " (n .string) ++ bytes " bytes between its quotes. Print it in parts.")
     (cond (digit b) (counted "This number is larger than " (n .literal) ++ bytes ", the largest there is.")
     (counted "This word has more than " (n .word) ++ bytes " letters. Choose a shorter one."))
 
--- 4, by whether the text ends there
+-- no program: by whether the text ends there
 unfoldable pub cannot-stand : Bool → List ℕ
 cannot-stand true = bytes "The text ends here, and the program is not finished. Is a } or a command missing?"
 cannot-stand false = bytes "This cannot stand here. Read the sentence aloud up to the mark: what should follow?"
 
--- the names, the nestings and the code
-unfoldable pub why-later : Numbers → ℕ → List ℕ
-why-later n number =
-    cond (eqb number 5) (counted "This is too deep: of ( { IF WHILE NOT only " (n .nesting) ++ bytes " may be open at once. Split the sentence.")
-    (cond (eqb number 6) (bytes "This name is not declared here. Write INT and the name before it, in this block or in one around it.")
-    (cond (eqb number 7) (counted "This is one declaration too many: a text may have " (n .declarations) ++ bytes ". Use fewer variables.")
-    (counted "The program is too long: its code may have " (n .instructions) ++ bytes " instructions. Make it shorter.")))
-
-unfoldable pub why : Numbers → List ℕ → ℕ → ℕ → List ℕ
-why n text number place =
-    cond (eqb number 1) (counted "The text is longer than " (n .text) ++ bytes " bytes. Make it shorter.")
-    (cond (eqb number 2) (no-lexeme (getD text place 0))
-    (cond (eqb number 3) (too-large n (getD text place 0))
-    (cond (eqb number 4) (cannot-stand (leb (length text) place))
-    (why-later n number))))
+unfoldable pub why : Numbers → List ℕ → Refusal → ℕ → List ℕ
+why n text TooLong place = counted "The text is longer than " (n .text) ++ bytes " bytes. Make it shorter."
+why n text NoLexeme place = no-lexeme (getD text place 0)
+why n text TooLarge place = too-large n (getD text place 0)
+why n text NoProgram place = cannot-stand (leb (length text) place)
+why n text TooDeep place = counted "This is too deep: of ( { IF WHILE NOT only " (n .nesting) ++ bytes " may be open at once. Split the sentence."
+why n text Undeclared place = bytes "This name is not declared here. Write INT and the name before it, in this block or in one around it."
+why n text TooManyDeclared place = counted "This is one declaration too many: a text may have " (n .declarations) ++ bytes ". Use fewer variables."
+why n text TooMuchCode place = counted "The program is too long: its code may have " (n .instructions) ++ bytes " instructions. Make it shorter."
 
 -- ---- how a run ended
 

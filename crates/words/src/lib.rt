@@ -5,7 +5,8 @@ ghost use lib.IntN.{pos};
 ghost use lib.ListN.{getD};
 ghost use Rattle.instruction.specs.Numbers.{decimal};
 ghost use Rattle.lines.specs.Added.{Added};
-ghost use Rattle.words.specs.Words.{no-lexeme, too-large, cannot-stand, why-later, why, how-later, how};
+ghost use Rattle.words.specs.Words.{no-lexeme, too-large, cannot-stand, why, how-later, how};
+use base::Refusal;
 use base::Such;
 use limits::Limits;
 use limits::Station;
@@ -137,73 +138,55 @@ fn byte_at(text: &[u8], place: usize) -> u8
     0
 }
 
-fn put_why_later(page: &mut [u8], at: usize, n: Numbers, number: u8) -> usize
-    ensures { λ r. ⌜ Added (why-later n number) (now (page .entry)) at (now (page .exit)) r ⌝ }
-{
-    if number == 5 {
-        return around(
-            page,
-            at,
-            b"This is too deep: of ( { IF WHILE NOT only ",
-            n.nesting as u64,
-            b" may be open at once. Split the sentence.",
-        );
-    }
-    if number == 6 {
-        return lines::put(
-            page,
-            at,
-            b"This name is not declared here. Write INT and the name before it, in this block or in one around it.",
-        );
-    }
-    if number == 7 {
-        return around(
-            page,
-            at,
-            b"This is one declaration too many: a text may have ",
-            n.declarations as u64,
-            b". Use fewer variables.",
-        );
-    }
-    around(
-        page,
-        at,
-        b"The program is too long: its code may have ",
-        n.instructions as u64,
-        b" instructions. Make it shorter.",
-    )
-}
-
 // Why a text is refused.
 pub fn put_why(
     page: &mut [u8],
     at: usize,
     n: Numbers,
     text: &[u8],
-    number: u8,
+    refusal: Refusal,
     place: usize,
 ) -> usize
-    ensures { λ r. ⌜ Added (why n (now (text .entry)) number place) (now (page .entry)) at (now (page .exit)) r ⌝ }
+    ensures { λ r. ⌜ Added (why n (now (text .entry)) refusal place) (now (page .entry)) at (now (page .exit)) r ⌝ }
 {
-    if number == 1 {
-        return around(
+    match refusal {
+        Refusal::TooLong => around(
             page,
             at,
             b"The text is longer than ",
             n.text as u64,
             b" bytes. Make it shorter.",
-        );
+        ),
+        Refusal::NoLexeme => put_no_lexeme(page, at, byte_at(text, place)),
+        Refusal::TooLarge => put_too_large(page, at, n, byte_at(text, place)),
+        Refusal::NoProgram => put_cannot_stand(page, at, text.len() <= place),
+        Refusal::TooDeep => around(
+            page,
+            at,
+            b"This is too deep: of ( { IF WHILE NOT only ",
+            n.nesting as u64,
+            b" may be open at once. Split the sentence.",
+        ),
+        Refusal::Undeclared => lines::put(
+            page,
+            at,
+            b"This name is not declared here. Write INT and the name before it, in this block or in one around it.",
+        ),
+        Refusal::TooManyDeclared => around(
+            page,
+            at,
+            b"This is one declaration too many: a text may have ",
+            n.declarations as u64,
+            b". Use fewer variables.",
+        ),
+        Refusal::TooMuchCode => around(
+            page,
+            at,
+            b"The program is too long: its code may have ",
+            n.instructions as u64,
+            b" instructions. Make it shorter.",
+        ),
     }
-    if number == 2 {
-        return put_no_lexeme(page, at, byte_at(text, place));
-    }
-    if number == 3 {
-        return put_too_large(page, at, n, byte_at(text, place));
-    }
-    if number == 4 {
-        return put_cannot_stand(page, at, text.len() <= place);
-    }
-    put_why_later(page, at, n, number)
 }
 
 fn put_how_later(page: &mut [u8], at: usize, n: Numbers, ending: u8) -> usize

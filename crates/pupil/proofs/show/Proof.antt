@@ -11,9 +11,8 @@ use Rattle.pupil.proofs.show.Tie as tie
 
 returns : tie.Need-returns
 returns c =
-    let l : 512 ≤ length (now (c .before .before .before .before .before .before .before .args .page)) = search needs in
-    let x = rw (c .before .number .ensures) at (c .put-refusal .ensures) in
-    shown-refused _ (c .before .before .before .before .before .before .before .args .n) (now (c .before .before .before .before .before .before .before .args .text)) (now (c .before .before .before .before .before .before .before .args .room)) (c .before .before .before .before .c .given .1) (omega (arith, x .1, l)) (x .0)
+    let l : 512 ≤ length (now (c .before .before .before .before .before .before .args .page)) = search needs in
+    shown-refused _ (c .before .before .before .before .before .before .args .n) (now (c .before .before .before .before .before .before .args .text)) (now (c .before .before .before .before .before .before .args .room)) (c .before .before .before .c .given .1) (omega (arith, c .put-refusal .ensures .1, l)) (c .put-refusal .ensures .0)
 
 returns-2 : tie.Need-returns-2
 returns-2 c =
@@ -26,7 +25,6 @@ show-spec =
     tie.close
     (tie.spec
     (λ c. search needs)
-    (λ c κs. search needs)
     (λ c κs. search needs)
     (λ c. search needs)
     (λ c κs. search needs)

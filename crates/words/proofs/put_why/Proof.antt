@@ -1,5 +1,4 @@
 -- `words::put_why` meets its contract. Assumes nothing.
-use borrow.Author.Tests.{eq-eqb, ne-eqb}
 use Rattle.base.specs.Bytes.{bytes, bytes-from}
 use Rattle.lines.specs.Lines.{counted}
 use Rattle.words.specs.Words.{why}
@@ -9,23 +8,35 @@ use Rattle.words.proofs.put_why.Tie as tie
 
 returns : tie.Need-returns
 unfolding why counted bytes bytes-from
-returns c = rw (eq-eqb (c .before .before .before .before .before .before .before .before .before .args .number) 1 (c .before .before .before .before .before .before .if1 .taken)) (c .before .before .around .ensures)
+returns c = rw (c .before .before .before .before .before .before .enum-told .given .1) (c .before .before .around .ensures)
 
 returns-2 : tie.Need-returns-2
-unfolding why counted bytes bytes-from
-returns-2 c = rw (ne-eqb (c .before .before .before .before .before .before .before .before .before .args .number) 1 (c .before .before .before .before .before .before .if1 .left), eq-eqb (c .before .before .before .before .before .before .before .before .before .args .number) 2 (c .before .before .before .before .before .if2 .taken)) (rw (c .before .before .before .byte-at .ensures) at (c .before .before .put-no-lexeme .ensures))
+unfolding why
+returns-2 c = rw (c .before .before .before .before .before .enum-told2 .given .1) (rw (c .before .before .before .byte-at .ensures) at (c .before .before .put-no-lexeme .ensures))
 
 returns-3 : tie.Need-returns-3
-unfolding why counted bytes bytes-from
-returns-3 c = rw (ne-eqb (c .before .before .before .before .before .before .before .before .before .before .args .number) 1 (c .before .before .before .before .before .before .before .if1 .left), ne-eqb (c .before .before .before .before .before .before .before .before .before .before .args .number) 2 (c .before .before .before .before .before .before .if2 .left), eq-eqb (c .before .before .before .before .before .before .before .before .before .before .args .number) 3 (c .before .before .before .before .before .if3 .taken)) (rw (c .before .before .before .byte-at2 .ensures) at (c .before .before .put-too-large .ensures))
+unfolding why
+returns-3 c = rw (c .before .before .before .before .before .enum-told3 .given .1) (rw (c .before .before .before .byte-at2 .ensures) at (c .before .before .put-too-large .ensures))
 
 returns-4 : tie.Need-returns-4
-unfolding why counted bytes bytes-from
-returns-4 c = rw (ne-eqb (c .before .before .before .before .before .before .before .before .before .before .args .number) 1 (c .before .before .before .before .before .before .before .if1 .left), ne-eqb (c .before .before .before .before .before .before .before .before .before .before .args .number) 2 (c .before .before .before .before .before .before .if2 .left), ne-eqb (c .before .before .before .before .before .before .before .before .before .before .args .number) 3 (c .before .before .before .before .before .if3 .left), eq-eqb (c .before .before .before .before .before .before .before .before .before .before .args .number) 4 (c .before .before .before .before .if4 .taken)) (c .before .before .put-cannot-stand .ensures)
+unfolding why
+returns-4 c = rw (c .before .before .before .before .enum-told4 .given .1) (c .before .before .put-cannot-stand .ensures)
 
 returns-5 : tie.Need-returns-5
 unfolding why counted bytes bytes-from
-returns-5 c = rw (ne-eqb (c .before .before .before .before .before .before .before .before .before .before .args .number) 1 (c .before .before .before .before .before .before .before .if1 .left), ne-eqb (c .before .before .before .before .before .before .before .before .before .before .args .number) 2 (c .before .before .before .before .before .before .if2 .left), ne-eqb (c .before .before .before .before .before .before .before .before .before .before .args .number) 3 (c .before .before .before .before .before .if3 .left), ne-eqb (c .before .before .before .before .before .before .before .before .before .before .args .number) 4 (c .before .before .before .before .if4 .left)) (c .before .before .put-why-later .ensures)
+returns-5 c = rw (c .before .before .before .before .before .before .enum-told5 .given .1) (c .before .before .around2 .ensures)
+
+returns-6 : tie.Need-returns-6
+unfolding why bytes bytes-from
+returns-6 c = rw (c .before .before .before .before .before .enum-told6 .given .1) (c .before .before .put .ensures)
+
+returns-7 : tie.Need-returns-7
+unfolding why counted bytes bytes-from
+returns-7 c = rw (c .before .before .before .before .before .before .enum-told7 .given .1) (c .before .before .around3 .ensures)
+
+returns-8 : tie.Need-returns-8
+unfolding why counted bytes bytes-from
+returns-8 c = rw (c .before .before .before .before .before .before .enum-told8 .given .1) (c .before .before .around4 .ensures)
 
 pub put-why-spec : {M : Type 1} → statement M
 put-why-spec =
@@ -33,20 +44,44 @@ put-why-spec =
     (tie.spec
     (λ c. search needs)
     (λ c. search needs)
+    (λ c. search needs)
+    (λ c κs. search needs)
+    (λ c. search needs)
+    (λ c κs. search needs)
+    (λ c κs. search needs)
+    (λ c. search needs)
+    (λ c κs. search needs)
+    (λ c κs. search needs)
+    (λ c. search needs)
+    (λ c κs. search needs)
+    (λ c. search needs)
+    (λ c. search needs)
+    (λ c. search needs)
+    (λ c κs. search needs)
+    (λ c. search needs)
+    (λ c. search needs)
+    (λ c κs. search needs)
+    (λ c. search needs)
+    (λ c. search needs)
+    (λ c. search needs)
+    (λ c κs. search needs)
+    (λ c. search needs)
+    (λ c. search needs)
+    (λ c. search needs)
     (λ c κs. search needs)
     (λ c. search needs)
     returns
-    (λ c κs. search needs)
-    (λ c κs. search needs)
     (λ c. search needs)
     returns-2
-    (λ c κs. search needs)
-    (λ c κs. search needs)
     (λ c. search needs)
     returns-3
-    (λ c κs. search needs)
     (λ c. search needs)
     returns-4
-    (λ c κs. search needs)
     (λ c. search needs)
-    returns-5)
+    returns-5
+    (λ c. search needs)
+    returns-6
+    (λ c. search needs)
+    returns-7
+    (λ c. search needs)
+    returns-8)
