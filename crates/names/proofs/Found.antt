@@ -10,7 +10,7 @@ use lib.Seq.{drop-cons}
 use borrow.Author.Tests.{ne-eqb, lt-ltb, ltb-true, ltb-false}
 use Rattle.base.specs.Bytes.{part, same}
 use Rattle.names.specs.Names.{Declaration}
-use Rattle.names.specs.Held.{held, visible-in, latest}
+use Rattle.names.specs.Held.{room, held, visible-in, latest}
 use Rattle.names.specs.declared.Cell.{Cell}
 use Rattle.names.specs.declared.Cell.the-variants.{At, Nowhere}
 
@@ -30,24 +30,21 @@ abbrev picked : Declaration → List Declaration → List ℕ → Bool → Cell
 picked d ds word t = elim t [ true ↦ At (d .cell) | false ↦ latest ds word ]
 
 module _ (text names : List ℕ) where
-  abbrev room : ℕ
-  room = length names / 4
-
-  pub visible-suc : (k : ℕ) → k < room → visible-in text names (suc k) ≡ held text names k ∷ visible-in text names k
+  pub visible-suc : (k : ℕ) → k < (room names) → visible-in text names (suc k) ≡ held text names k ∷ visible-in text names k
   unfolding visible-in
-  visible-suc k h = rw (lt-ltb k room h)
+  visible-suc k h = rw (lt-ltb k (room names) h)
 
   -- beyond the list there are no declarations
-  visible-room : (v : ℕ) → visible-in text names (min v room) ≡ visible-in text names v
+  visible-room : (v : ℕ) → visible-in text names (min v (room names)) ≡ visible-in text names v
   unfolding visible-in
-  visible-room zero = let z : min zero room ≡ zero = omega arith in rw z
-  visible-room (suc v) = by (visible-room v) (ltb v room) refl
+  visible-room zero = let z : min zero (room names) ≡ zero = omega arith in rw z
+  visible-room (suc v) = by (visible-room v) (ltb v (room names)) refl
     where
-      by : visible-in text names (min v room) ≡ visible-in text names v → (b : Bool) → ltb v room ≡ b → visible-in text names (min (suc v) room) ≡ cond b (held text names v ∷ visible-in text names v) (visible-in text names v)
-      by i true h = let m : min (suc v) room ≡ suc v = omega (arith, ltb-true v room h) in rw m (rw h)
-      by i false h = let m : min (suc v) room ≡ min v room = omega (arith, ltb-false v room h) in rw m i
+      by : visible-in text names (min v (room names)) ≡ visible-in text names v → (b : Bool) → ltb v (room names) ≡ b → visible-in text names (min (suc v) (room names)) ≡ cond b (held text names v ∷ visible-in text names v) (visible-in text names v)
+      by i true h = let m : min (suc v) (room names) ≡ suc v = omega (arith, ltb-true v (room names) h) in rw m (rw h)
+      by i false h = let m : min (suc v) (room names) ≡ min v (room names) = omega (arith, ltb-false v (room names) h) in rw m i
 
-  pub found-room : (v k : ℕ) (word letters : List ℕ) → k ≡ min v room → word ≡ letters → latest (visible-in text names k) word ≡ latest (visible-in text names v) letters
+  pub found-room : (v k : ℕ) (word letters : List ℕ) → k ≡ min v (room names) → word ≡ letters → latest (visible-in text names k) word ≡ latest (visible-in text names v) letters
   found-room v k word letters h e = rw (h, e, visible-room v)
 
   pub found-none : (word : List ℕ) (k : ℕ) → k ≤ 0 → Nowhere ≡ latest (visible-in text names k) word
@@ -55,7 +52,7 @@ module _ (text names : List ℕ) where
   found-none word k h = let z : k ≡ 0 = omega arith in rw z
 
   -- a loop that goes down to the first declaration, at the k-th
-  module _ (word : List ℕ) (k : ℕ) (some : 0 < k) (fits : k ≤ room) where
+  module _ (word : List ℕ) (k : ℕ) (some : 0 < k) (fits : k ≤ (room names)) where
     last-visible : (t : Bool) → same (held text names (k - 1) .letters) word ≡ t → latest (visible-in text names k) word ≡ picked (held text names (k - 1)) (visible-in text names (k - 1)) word t
     unfolding latest
     last-visible t h =

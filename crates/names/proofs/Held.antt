@@ -1,34 +1,45 @@
 -- How the code holds a scope, for whoever calls it: a use, a declaration and a block do to the scope held what names do to a scope. Assumes nothing.
-use mathlib.Core.Path.{_≡_, refl, sym, ap, _∙_}
+use mathlib.Core.Path.{_≡_, refl, sym, ap, subst, _∙_}
 use mathlib.Core.List.{List, [], _∷_}
-use mathlib.Core.Bool.{Bool, true, false}
+use mathlib.Core.Bool.{Bool, true, false, cond}
 use Prim.Native.Nat.{ℕ, zero, suc, _+_, _*_, _/_, _≤_, _<_}
-use native.Mathlib.Nat.{add-zero, eq-or-lt-of-le}
+use native.Mathlib.Nat.{add-zero, le-refl, eq-or-lt-of-le}
 use mathlib.Core.Logic.{⊎-elim}
 use native.Mathlib.Omega.{arith}
+use lib.Dec.{ltb}
 use lib.ListN.{length, getD, set, length-set}
 use lib.Seq.{sets, length-sets, getD-set-same, getD-set-other}
-use borrow.Author.Tests.{lt-ltb, le-ltb}
+use borrow.Author.Tests.{lt-ltb, le-ltb, ltb-true, ltb-false}
 use Rattle.base.specs.declared.Refusal.the-variants.{Undeclared, TooManyDeclared}
 use Rattle.base.specs.Answers.{Answer, given, refused}
 use Rattle.base.specs.Bytes.{part, same}
 use Rattle.lexeme.specs.Lexemes.{Name}
 use Rattle.names.specs.Names as N
-use Rattle.names.specs.Names.{Declaration, Known, look-up, used, one-more, declared-here, opened, closed}
-use Rattle.names.specs.Held.{held, visible-in, scope-in, latest, one-up, declared-scope, entered, Declares, opened-scope, closed-scope, Sound, Low, Kept}
+use Rattle.names.specs.Names.{Declaration, Known, nothing-declared, look-up, used, one-more, declared-here, opened, closed}
+use Rattle.names.specs.Held.{counts, with-counts, one-up, room, held, visible-in, scope-in, latest, declared-scope, entered, declared-in, opened-scope, opened-in, closed-scope, closed-in, Sound, Kept}
 use Rattle.names.specs.declared.Scope.{Scope}
 use Rattle.names.specs.declared.Cell.{Cell}
 use Rattle.names.specs.declared.Cell.the-variants.{At, Nowhere}
-use Rattle.names.specs.declared.Declared.the-variants.{Is, TooMany}
 use Rattle.names.proofs.Found.{visible-suc}
 
--- ---- the beginning of a text
+-- ---- the beginning of a text: a list of zeros
 
-abbrev pub nothing-yet : Scope
-nothing-yet = record { visible = 0; declared = 0; «next_cell» = 0; cells = 0; blocks = 0 }
+module _ (names : List ℕ) (zeros : (i : ℕ) → getD names i 0 ≡ 0) where
+  pub nothing-sound : 5 ≤ length names → length names ≤ 1000000 → Sound names
+  nothing-sound h s = record {
+    head = h;
+    size = s;
+    visible = omega (arith, zeros 0);
+    next-cell = omega (arith, zeros 2);
+    cells = omega (arith, zeros 3);
+    declared = omega (arith, zeros 1);
+    blocks = omega (arith, zeros 4);
+    low = λ k q. absurd (omega (arith, zeros 0));
+  }
 
-pub nothing-sound : (names : List ℕ) → length names ≤ 1000000 → Sound names nothing-yet
-nothing-sound names h = record { visible = omega arith; next-cell = omega arith; cells = omega arith; declared = omega arith; blocks = omega arith; room = h }
+  pub nothing-scope : (text : List ℕ) → scope-in text names ≡ nothing-declared
+  unfolding scope-in visible-in
+  nothing-scope text = rw (zeros 0, zeros 1, zeros 2, zeros 3, zeros 4)
 
 -- ---- a use
 
@@ -45,147 +56,298 @@ looked-up x s (d ∷ ds) = by (looked-up x s ds) (same (d .letters) (x .letters)
     by i true = refl
     by i false = i
 
-module _ (text names : List ℕ) (s : Scope) (x : Name) where
-  pub used-at : (cell : ℕ) → latest (visible-in text names (s .visible)) (x .letters) ≡ At cell → used x (scope-in text names s) ≡ given (record { what = cell; scope = scope-in text names s })
+module _ (text names : List ℕ) (x : Name) where
+  pub used-at : (cell : ℕ) → latest (visible-in text names (counts names .visible)) (x .letters) ≡ At cell → used x (scope-in text names) ≡ given (record { what = cell; scope = scope-in text names })
   unfolding used scope-in
-  used-at cell h = looked-up x (scope-in text names s) (visible-in text names (s .visible)) ∙ ap (answer x (scope-in text names s)) h
+  used-at cell h = looked-up x (scope-in text names) (visible-in text names (counts names .visible)) ∙ ap (answer x (scope-in text names)) h
 
-  pub used-nowhere : latest (visible-in text names (s .visible)) (x .letters) ≡ Nowhere → used x (scope-in text names s) ≡ refused Undeclared (x .place)
+  pub used-nowhere : latest (visible-in text names (counts names .visible)) (x .letters) ≡ Nowhere → used x (scope-in text names) ≡ refused Undeclared (x .place)
   unfolding used scope-in
-  used-nowhere h = looked-up x (scope-in text names s) (visible-in text names (s .visible)) ∙ ap (answer x (scope-in text names s)) h
+  used-nowhere h = looked-up x (scope-in text names) (visible-in text names (counts names .visible)) ∙ ap (answer x (scope-in text names)) h
+
+-- where the cells of visible declarations are below n, so is the one that is found
+module _ (text names : List ℕ) (n : ℕ) (letters : List ℕ) where
+  found-below : (k : ℕ) → ((i : ℕ) → i < k → getD names (5 + i * 4 + 2) 0 < n) → (cell : ℕ) → latest (visible-in text names k) letters ≡ At cell → cell < n
+  unfolding visible-in held latest
+  found-below zero low cell e = let z : _≡_ {A = ℕ} 0 1 = cc in absurd (omega arith)
+  found-below (suc k) low cell e = by (found-below k (λ i h. low i (omega arith)) cell) (ltb k (room names)) e
+    where
+      first : (latest (visible-in text names k) letters ≡ At cell → cell < n) → (b : Bool) → elim b as (λ _. Cell) [ true ↦ At (held text names k .cell) | false ↦ latest (visible-in text names k) letters ] ≡ At cell → cell < n
+      first rest true e = let h : held text names k .cell ≡ cell = cc in omega (arith, low k (le-refl (suc k)))
+      first rest false e = rest e
+
+      by : (latest (visible-in text names k) letters ≡ At cell → cell < n) → (b : Bool) → latest (cond b (held text names k ∷ visible-in text names k) (visible-in text names k)) letters ≡ At cell → cell < n
+      by rest true e = first rest (same (held text names k .letters) letters) e
+      by rest false e = rest e
+
+pub found-low : (text names : List ℕ) (letters : List ℕ) (cell : ℕ) → Sound names → latest (visible-in text names (counts names .visible)) letters ≡ At cell → cell < counts names .declared
+found-low text names letters cell s e = found-below text names (counts names .declared) letters (counts names .visible) (s .low) cell e
 
 -- ---- what stays so
 
-pub kept-all : (k : ℕ) (names : List ℕ) → Kept k names names
-kept-all k names = record { count = refl; entries = λ i h. refl }
+pub kept-all : (names : List ℕ) → Kept names names
+kept-all names = record { long = refl; entries = λ i f h. refl; declared = le-refl (counts names .declared); visible = le-refl (counts names .visible); blocks = refl }
 
-pub kept-then : {k l : ℕ} {a b c : List ℕ} → Kept k a b → Kept l b c → k ≤ l → Kept k a c
-kept-then f g h = record { count = g .count ∙ f .count; entries = λ i q. g .entries i (omega arith) ∙ f .entries i q }
+pub kept-then : {a b c : List ℕ} → Kept a b → Kept b c → Kept a c
+kept-then f g = record {
+  long = g .long ∙ f .long;
+  entries = λ i h q. g .entries i h (omega (arith, f .visible)) ∙ f .entries i h q;
+  declared = omega (arith, f .declared, g .declared);
+  visible = omega (arith, f .visible, g .visible);
+  blocks = g .blocks ∙ f .blocks;
+}
 
-module _ (text names names′ : List ℕ) where
-  kept-held : (k : ℕ) → Kept (suc k) names names′ → held text names′ k ≡ held text names k
-  unfolding held
-  kept-held k h = rw (h .entries (k * 4) (omega arith), h .entries (k * 4 + 1) (omega arith), h .entries (k * 4 + 2) (omega arith), h .entries (k * 4 + 3) (omega arith))
+module _ (text names names′ : List ℕ) (long : length names′ ≡ length names) where
+  same-visible : (k : ℕ) → ((i : ℕ) → 5 ≤ i → i < 5 + k * 4 → getD names′ i 0 ≡ getD names i 0) → visible-in text names′ k ≡ visible-in text names k
+  unfolding visible-in held
+  same-visible zero h = refl
+  same-visible (suc k) h =
+      let at = 5 + k * 4 in
+      rw (long, h at (omega arith) (omega arith), h (at + 1) (omega arith) (omega arith), h (at + 2) (omega arith) (omega arith), h (at + 3) (omega arith) (omega arith), same-visible k (λ i f q. h i f (omega arith)))
 
-  kept-visible : (k : ℕ) → Kept k names names′ → visible-in text names′ k ≡ visible-in text names k
-  unfolding visible-in
-  kept-visible zero h = refl
-  kept-visible (suc k) h = rw (h .count, kept-held k h, kept-visible k (record { count = h .count; entries = λ i q. h .entries i (omega arith) }))
+-- ---- past the end of the list
 
--- ---- a declaration
+pub set-past : (l : List ℕ) (i v : ℕ) → length l ≤ i → l ≡ set l i v
+set-past [] i v h = refl
+set-past (x ∷ xs) zero v h = absurd (omega arith)
+set-past (x ∷ xs) (suc i) v h = ap (λ (r : List ℕ). x ∷ r) (set-past xs i v (omega arith))
 
--- a run of stores leaves what stands before it, and each of it can be read again
+-- ---- runs of stores: what stands before or after them stays, and each can be read again
+
 before-sets : (vs l : List ℕ) (i j : ℕ) → j < i → getD (sets l i vs) j 0 ≡ getD l j 0
 before-sets [] l i j h = refl
 before-sets (v ∷ vs) l i j h = before-sets vs (set l i v) (suc i) j (omega arith) ∙ getD-set-other l i j v 0 (omega arith)
+
+after-sets : (vs l : List ℕ) (i j : ℕ) → i + length vs ≤ j → getD (sets l i vs) j 0 ≡ getD l j 0
+after-sets [] l i j h = refl
+after-sets (v ∷ vs) l i j h = after-sets vs (set l i v) (suc i) j (omega arith) ∙ getD-set-other l i j v 0 (omega arith)
 
 in-sets : (vs l : List ℕ) (i j : ℕ) → i + length vs ≤ length l → j < length vs → getD (sets l i vs) (i + j) 0 ≡ getD vs j 0
 in-sets [] l i j h k = absurd (omega arith)
 in-sets (v ∷ vs) l i zero h k = rw add-zero (before-sets vs (set l i v) (suc i) i (omega arith) ∙ getD-set-same l i v 0 (omega arith))
 in-sets (v ∷ vs) l i (suc j) h k = let e : i + suc j ≡ suc i + j = omega arith in rw e (in-sets vs (set l i v) (suc i) j (simp length-set (omega arith)) (omega arith))
 
+-- ---- other counts
+
+module _ (names : List ℕ) (s : Scope) where
+  abbrev numbers : List ℕ
+  numbers = s .visible ∷ s .declared ∷ s .«next_cell» ∷ s .cells ∷ s .blocks ∷ []
+
+  with-long : length (with-counts names s) ≡ length names
+  unfolding with-counts
+  with-long = length-sets names 0 numbers
+
+  with-entries : (i : ℕ) → 5 ≤ i → getD (with-counts names s) i 0 ≡ getD names i 0
+  unfolding with-counts
+  with-entries i h = after-sets numbers names 0 i h
+
+  with-is : 5 ≤ length names → counts (with-counts names s) ≡ s
+  unfolding with-counts
+  with-is h = rw (at 0 (omega arith), at 1 (omega arith), at 2 (omega arith), at 3 (omega arith), at 4 (omega arith)) refl
+    where
+      at : (j : ℕ) → j < 5 → getD (sets names 0 numbers) (0 + j) 0 ≡ getD numbers j 0
+      at j q = in-sets numbers names 0 j h q
+
+  with-scope : 5 ≤ length names → (text : List ℕ) → scope-in text (with-counts names s) ≡ record { visible = visible-in text names (s .visible); declared = s .declared; next-cell = s .«next_cell»; cells = s .cells; blocks = s .blocks }
+  unfolding scope-in
+  with-scope h text = ap shown (with-is h) ∙ rw (same-visible text names (with-counts names s) with-long (s .visible) (λ i f q. with-entries i f)) refl
+    where
+      shown : Scope → N.Scope
+      shown c = record { visible = visible-in text (with-counts names s) (c .visible); declared = c .declared; next-cell = c .«next_cell»; cells = c .cells; blocks = c .blocks }
+
+-- ---- a declaration
+
 counts-on : (n : ℕ) → n ≤ 1000000 → one-up n ≡ suc n
 unfolding one-up
 counts-on n h = omega arith
 
-module _ (names : List ℕ) (s : Scope) (p e : ℕ) (sound : Sound names s) where
-  -- what is written, where there are fewer declarations than the list has room for
-  module _ (few : s .declared < length names / 4) where
+module _ (names : List ℕ) (p e : ℕ) (sound : Sound names) where
+  abbrev s : Scope
+  s = counts names
+
+  -- where there are fewer declarations than the list has room for
+  module _ (few : s .declared < room names) where
     abbrev entry : List ℕ
     entry = p ∷ e ∷ s .«next_cell» ∷ s .blocks ∷ []
 
     abbrev written : List ℕ
-    written = sets names (s .visible * 4) entry
+    written = sets names (5 + s .visible * 4) entry
 
-    entered-is : entered names s p e ≡ written
-    unfolding entered
-    entered-is = rw (lt-ltb (s .visible) (length names / 4) (omega arith))
+    abbrev after : List ℕ
+    after = with-counts written (declared-scope s)
 
-    written-kept : Kept (s .visible) names written
-    written-kept = record { count = length-sets names (s .visible * 4) entry; entries = λ i h. before-sets entry names (s .visible * 4) i h }
+    after-is : declared-in names p e ≡ after
+    unfolding declared-in entered
+    after-is = rw (lt-ltb (s .declared) (room names) few, lt-ltb (s .visible) (room names) (omega (arith, sound .visible)))
+
+    written-long : length written ≡ length names
+    written-long = length-sets names (5 + s .visible * 4) entry
+
+    after-counts : counts after ≡ record { visible = suc (s .visible); declared = suc (s .declared); «next_cell» = suc (s .«next_cell»); cells = suc (s .cells); blocks = s .blocks }
+    unfolding declared-scope
+    after-counts = with-is written (declared-scope s) (omega (arith, written-long, sound .head))
+        ∙ rw (counts-on (s .visible) (omega (arith, sound)), counts-on (s .declared) (omega (arith, sound)), counts-on (s .«next_cell») (omega (arith, sound)), counts-on (s .cells) (omega (arith, sound))) refl
+
+    after-entries : (i : ℕ) → 5 ≤ i → i < 5 + s .visible * 4 → getD after i 0 ≡ getD names i 0
+    after-entries i f h = with-entries written (declared-scope s) i f ∙ before-sets entry names (5 + s .visible * 4) i h
+
+    after-entry : (j : ℕ) → j < 4 → getD after (5 + s .visible * 4 + j) 0 ≡ getD entry j 0
+    after-entry j h = with-entries written (declared-scope s) (5 + s .visible * 4 + j) (omega arith) ∙ in-sets entry names (5 + s .visible * 4) j (omega (arith, sound .visible)) h
+
+    after-long : length after ≡ length names
+    after-long = with-long written (declared-scope s) ∙ written-long
+
+    after-kept : Kept names after
+    after-kept = record {
+      long = after-long;
+      entries = after-entries;
+      declared = omega (arith, ap (λ (c : Scope). c .declared) after-counts);
+      visible = omega (arith, ap (λ (c : Scope). c .visible) after-counts);
+      blocks = ap (λ (c : Scope). c .blocks) after-counts;
+    }
+
+    after-sound : Sound after
+    after-sound =
+        let v = ap (λ (c : Scope). c .visible) after-counts in
+        let d = ap (λ (c : Scope). c .declared) after-counts in
+        record {
+          head = omega (arith, after-long, sound .head);
+          size = omega (arith, after-long, sound .size);
+          visible = omega (arith, v, d, sound .visible);
+          next-cell = omega (arith, ap (λ (c : Scope). c .«next_cell») after-counts, d, sound .next-cell);
+          cells = omega (arith, ap (λ (c : Scope). c .cells) after-counts, d, sound .cells);
+          declared = omega (arith, after-long, d);
+          blocks = omega (arith, ap (λ (c : Scope). c .blocks) after-counts, sound .blocks);
+          low = λ k h. omega (arith, d, below k (omega (arith, v)));
+        }
+      where
+        below : (k : ℕ) → k ≤ s .visible → getD after (5 + k * 4 + 2) 0 ≤ s .declared
+        below k h = ⊎-elim (λ (e : k ≡ s .visible). rw e (omega (arith, after-entry 2 (omega arith), sound .next-cell))) (λ (q : k < s .visible). omega (arith, after-entries (5 + k * 4 + 2) (omega arith) (omega arith), sound .low k q)) (eq-or-lt-of-le h)
 
     module _ (text : List ℕ) where
-      written-held : held text written (s .visible) ≡ record { letters = part text p e; cell = s .«next_cell»; block = s .blocks }
+      after-held : held text after (s .visible) ≡ record { letters = part text p e; cell = s .«next_cell»; block = s .blocks }
       unfolding held
-      written-held = rw (ap (λ (i : ℕ). getD written i 0) (sym (add-zero (s .visible * 4))) ∙ at 0 (omega arith), at 1 (omega arith), at 2 (omega arith), at 3 (omega arith))
+      after-held = rw (ap (λ (i : ℕ). getD after i 0) (sym (add-zero (5 + s .visible * 4))) ∙ after-entry 0 (omega arith), after-entry 1 (omega arith), after-entry 2 (omega arith), after-entry 3 (omega arith))
+
+      after-visible : visible-in text after (suc (s .visible)) ≡ record { letters = part text p e; cell = s .«next_cell»; block = s .blocks } ∷ visible-in text names (s .visible)
+      after-visible = visible-suc text after (s .visible) (omega (arith, after-long, sound .visible)) ∙ rw (after-held, same-visible text names after after-long (s .visible) after-entries)
+
+      after-scope : (x : Name) → x .letters ≡ part text p e → scope-in text after ≡ one-more x (scope-in text names)
+      unfolding scope-in one-more
+      after-scope x h = ap shown after-counts ∙ rw (after-visible, h) refl
         where
-          at : (j : ℕ) → j < 4 → getD written (s .visible * 4 + j) 0 ≡ getD entry j 0
-          at j h = in-sets entry names (s .visible * 4) j (omega arith) h
+          shown : Scope → N.Scope
+          shown c = record { visible = visible-in text after (c .visible); declared = c .declared; next-cell = c .«next_cell»; cells = c .cells; blocks = c .blocks }
 
-      written-visible : visible-in text written (suc (s .visible)) ≡ record { letters = part text p e; cell = s .«next_cell»; block = s .blocks } ∷ visible-in text names (s .visible)
-      written-visible = visible-suc text written (s .visible) (omega (arith, written-kept .count)) ∙ rw (written-held, kept-visible text names written (s .visible) written-kept)
+      pub declared-given : (x : Name) → x .letters ≡ part text p e → declared-here (room names) x (scope-in text names) ≡ given (record { what = s .«next_cell»; scope = scope-in text (declared-in names p e) })
+      unfolding declared-here scope-in
+      declared-given x h = rw (lt-ltb (s .declared) (room names) few) (ap (λ (k : N.Scope). given (record { what = s .«next_cell»; scope = k })) (sym (ap (scope-in text) after-is ∙ after-scope x h)))
 
-      written-scope : (x : Name) → x .letters ≡ part text p e → scope-in text written (declared-scope s) ≡ one-more x (scope-in text names s)
-      unfolding scope-in declared-scope one-more
-      written-scope x h = rw (counts-on (s .visible) (omega arith), counts-on (s .declared) (omega arith), counts-on (s .«next_cell») (omega arith), counts-on (s .cells) (omega arith), written-visible, h)
+  -- where there are as many
+  too-many : room names ≤ s .declared → declared-in names p e ≡ names
+  unfolding declared-in
+  too-many h = rw (le-ltb (s .declared) (room names) h)
 
-  module _ (t : Scope) (names′ : List ℕ) (is : Declares names s p e (Is t) names′) where
-    pub declared-kept : Kept (s .visible) names names′
-    unfolding Declares
-    declared-kept = rw (is .2, entered-is (is .0)) (written-kept (is .0))
+  either : (P : List ℕ → Type 0) → ((few : s .declared < room names) → P (after few)) → P names → P (declared-in names p e)
+  either P f n = by (ltb (s .declared) (room names)) refl
+    where
+      by : (b : Bool) → ltb (s .declared) (room names) ≡ b → P (declared-in names p e)
+      by true h = rw (after-is (ltb-true (s .declared) (room names) h)) (f (ltb-true (s .declared) (room names) h))
+      by false h = rw (too-many (ltb-false (s .declared) (room names) h)) n
 
-    pub declared-visible : t .visible ≡ suc (s .visible)
-    unfolding Declares declared-scope
-    declared-visible = rw (is .1) (counts-on (s .visible) (omega arith))
+  pub declared-kept : Kept names (declared-in names p e)
+  declared-kept = either (Kept names) after-kept (kept-all names)
 
-    pub declared-count : t .declared ≡ suc (s .declared)
-    unfolding Declares declared-scope
-    declared-count = rw (is .1) (counts-on (s .declared) (omega arith))
+  pub declared-sound : Sound (declared-in names p e)
+  declared-sound = either Sound after-sound sound
 
-    pub declared-sound : Sound names′ t
-    unfolding Declares declared-scope
-    declared-sound =
-        let k = declared-kept .count in
-        rw (is .1, counts-on (s .visible) (omega arith), counts-on (s .declared) (omega arith), counts-on (s .«next_cell») (omega arith), counts-on (s .cells) (omega arith))
-        (record { visible = omega arith; next-cell = omega arith; cells = omega arith; declared = omega arith; blocks = sound .blocks; room = omega arith })
-
-    pub declared-low : Low names s → Low names′ t
-    unfolding Declares
-    declared-low low = record { cells = λ k h. by k (omega (arith, declared-visible)) }
-      where
-        at-last : getD names′ (s .visible * 4 + 2) 0 ≡ s .«next_cell»
-        at-last = rw (is .2, entered-is (is .0)) (unfold held in ap (λ (d : Declaration). d .cell) (written-held (is .0) []))
-
-        by : (k : ℕ) → k ≤ s .visible → getD names′ (k * 4 + 2) 0 < t .declared
-        by k h = ⊎-elim (λ (e : k ≡ s .visible). rw e (omega (arith, at-last, declared-count, sound .next-cell))) (λ (q : k < s .visible). omega (arith, declared-kept .entries (k * 4 + 2) (omega arith), low .cells k q, declared-count)) (eq-or-lt-of-le h)
-
-    module _ (text : List ℕ) (x : Name) (letters : x .letters ≡ part text p e) where
-      pub declared-scope-in : scope-in text names′ t ≡ one-more x (scope-in text names s)
-      unfolding Declares
-      declared-scope-in = rw (is .1, is .2, entered-is (is .0)) (written-scope (is .0) text x letters)
-
-      pub declared-given : declared-here (length names / 4) x (scope-in text names s) ≡ given (record { what = s .«next_cell»; scope = scope-in text names′ t })
-      unfolding declared-here scope-in Declares
-      declared-given = rw (lt-ltb (s .declared) (length names / 4) (is .0)) (ap (λ (k : N.Scope). given (record { what = s .«next_cell»; scope = k })) (sym declared-scope-in))
-
-pub declared-too-many : (names : List ℕ) (s : Scope) (p e : ℕ) (names′ : List ℕ) → Declares names s p e TooMany names′ → (text : List ℕ) (x : Name) → declared-here (length names / 4) x (scope-in text names s) ≡ refused TooManyDeclared (x .place)
-unfolding declared-here scope-in Declares
-declared-too-many names s p e names′ is text x = rw (le-ltb (s .declared) (length names / 4) (is .0))
+  pub declared-too-many : room names ≤ s .declared → (text : List ℕ) (x : Name) → declared-here (room names) x (scope-in text names) ≡ refused TooManyDeclared (x .place)
+  unfolding declared-here scope-in
+  declared-too-many h text x = rw (le-ltb (s .declared) (room names) h)
 
 -- ---- a block
 
-module _ (names : List ℕ) (s : Scope) (sound : Sound names s) (few : s .blocks < 1000000) where
-  pub opened-scope-in : (text : List ℕ) → scope-in text names (opened-scope s) ≡ opened (scope-in text names s)
-  unfolding scope-in opened-scope opened
-  opened-scope-in text = rw (counts-on (s .blocks) (omega arith))
+module _ (names : List ℕ) (sound : Sound names) (few : counts names .blocks < 1000000) where
+  pub opened-counts : counts (opened-in names) ≡ record { visible = counts names .visible; declared = counts names .declared; «next_cell» = counts names .«next_cell»; cells = counts names .cells; blocks = suc (counts names .blocks) }
+  unfolding opened-in opened-scope
+  opened-counts = with-is names (opened-scope (counts names)) (sound .head) ∙ rw (counts-on (counts names .blocks) (omega arith)) refl
 
-  pub opened-sound : Sound names (opened-scope s)
-  unfolding opened-scope
-  opened-sound = rw (counts-on (s .blocks) (omega arith)) (record { visible = sound .visible; next-cell = sound .next-cell; cells = sound .cells; declared = sound .declared; blocks = few; room = sound .room })
+  pub opened-long : length (opened-in names) ≡ length names
+  unfolding opened-in
+  opened-long = with-long names (opened-scope (counts names))
 
-  pub opened-low : Low names s → Low names (opened-scope s)
-  unfolding opened-scope
-  opened-low low = record { cells = low .cells }
+  opened-entries : (i : ℕ) → 5 ≤ i → getD (opened-in names) i 0 ≡ getD names i 0
+  unfolding opened-in
+  opened-entries i h = with-entries names (opened-scope (counts names)) i h
 
-module _ (names names′ : List ℕ) (before s : Scope) where
-  pub closed-scope-in : (text : List ℕ) → Kept (before .visible) names names′ → scope-in text names′ (closed-scope before s) ≡ closed (scope-in text names before) (scope-in text names′ s)
-  unfolding scope-in closed-scope closed
-  closed-scope-in text h = rw (kept-visible text names names′ (before .visible) h)
+  pub opened-scope-in : (text : List ℕ) → scope-in text (opened-in names) ≡ opened (scope-in text names)
+  unfolding opened-in opened-scope scope-in opened
+  opened-scope-in text = with-scope names (opened-scope (counts names)) (sound .head) text ∙ rw (counts-on (counts names .blocks) (omega arith)) refl
 
-  pub closed-sound : Sound names before → Sound names′ s → before .declared ≤ s .declared → Sound names′ (closed-scope before s)
-  unfolding closed-scope
-  closed-sound b t h = record { visible = omega arith; next-cell = t .next-cell; cells = t .cells; declared = t .declared; blocks = b .blocks; room = t .room }
+  pub opened-sound : Sound (opened-in names)
+  opened-sound =
+      let v = ap (λ (c : Scope). c .visible) opened-counts in
+      let d = ap (λ (c : Scope). c .declared) opened-counts in
+      record {
+        head = omega (arith, opened-long, sound .head);
+        size = omega (arith, opened-long, sound .size);
+        visible = omega (arith, v, d, sound .visible);
+        next-cell = omega (arith, ap (λ (c : Scope). c .«next_cell») opened-counts, d, sound .next-cell);
+        cells = omega (arith, ap (λ (c : Scope). c .cells) opened-counts, d, sound .cells);
+        declared = omega (arith, opened-long, d, sound .declared);
+        blocks = omega (arith, ap (λ (c : Scope). c .blocks) opened-counts);
+        low = λ k h. omega (arith, d, opened-entries (5 + k * 4 + 2) (omega arith), sound .low k (omega (arith, v)));
+      }
 
-  pub closed-low : Low names before → Kept (before .visible) names names′ → before .declared ≤ s .declared → Low names′ (closed-scope before s)
-  unfolding closed-scope
-  closed-low low kept h = record { cells = λ k q. omega (arith, kept .entries (k * 4 + 2) (omega arith), low .cells k q) }
+  -- closed again, after what leaves of the list what it must
+  module _ (names′ : List ℕ) (kept : Kept (opened-in names) names′) (sound′ : Sound names′) where
+    abbrev after-block : List ℕ
+    after-block = closed-in names′ (counts names)
+
+    block-counts : counts after-block ≡ closed-scope (counts names) (counts names′)
+    unfolding closed-in
+    block-counts = with-is names′ (closed-scope (counts names) (counts names′)) (sound′ .head)
+
+    block-long : length after-block ≡ length names
+    unfolding closed-in
+    block-long = with-long names′ (closed-scope (counts names) (counts names′)) ∙ kept .long ∙ opened-long
+
+    block-entries : (i : ℕ) → 5 ≤ i → i < 5 + counts names .visible * 4 → getD after-block i 0 ≡ getD names i 0
+    unfolding closed-in
+    block-entries i f h = with-entries names′ (closed-scope (counts names) (counts names′)) i f ∙ kept .entries i f (omega (arith, ap (λ (c : Scope). c .visible) opened-counts)) ∙ opened-entries i f
+
+    more : counts names .declared ≤ counts names′ .declared
+    more = omega (arith, ap (λ (c : Scope). c .declared) opened-counts, kept .declared)
+
+    pub closed-kept : Kept names after-block
+    unfolding closed-scope
+    closed-kept = record {
+      long = block-long;
+      entries = block-entries;
+      declared = omega (arith, ap (λ (c : Scope). c .declared) block-counts, more);
+      visible = omega (arith, ap (λ (c : Scope). c .visible) block-counts);
+      blocks = ap (λ (c : Scope). c .blocks) block-counts;
+    }
+
+    pub closed-sound : Sound after-block
+    unfolding closed-scope
+    closed-sound =
+        let v = ap (λ (c : Scope). c .visible) block-counts in
+        let d = ap (λ (c : Scope). c .declared) block-counts in
+        record {
+          head = omega (arith, block-long, sound .head);
+          size = omega (arith, block-long, sound .size);
+          visible = omega (arith, v, d, more, sound .visible);
+          next-cell = omega (arith, ap (λ (c : Scope). c .«next_cell») block-counts, d, sound′ .next-cell);
+          cells = omega (arith, ap (λ (c : Scope). c .cells) block-counts, d, sound′ .cells);
+          declared = omega (arith, block-long, kept .long, opened-long, d, sound′ .declared);
+          blocks = omega (arith, ap (λ (c : Scope). c .blocks) block-counts, sound .blocks);
+          low = λ k h. omega (arith, d, more, block-entries (5 + k * 4 + 2) (omega arith) (omega (arith, v)), sound .low k (omega (arith, v)));
+        }
+
+    pub closed-scope-in : (text : List ℕ) → scope-in text after-block ≡ closed (scope-in text names) (scope-in text names′)
+    unfolding scope-in closed
+    closed-scope-in text = ap shown block-counts ∙ unfold closed-scope in rw (same-visible text names after-block block-long (counts names .visible) block-entries) refl
+      where
+        shown : Scope → N.Scope
+        shown c = record { visible = visible-in text after-block (c .visible); declared = c .declared; next-cell = c .«next_cell»; cells = c .cells; blocks = c .blocks }

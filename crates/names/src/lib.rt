@@ -1,13 +1,15 @@
-// Scopes: what is visible at a place of a text, and the cells of its names. The declarations stand in a lent list, four numbers for each: the place of its name, the place after it, its cell, and its block.
+// Scopes: what is visible at a place of a text, and the cells of its names. A scope stands in a lent list: five counts, and then four numbers for each declaration: the place of its name, the place after it, its cell, and its block.
 ghost use mathlib.Core.Path.{_≡_};
 ghost use mathlib.Core.List.{[], _∷_};
 ghost use mathlib.Core.Bool.{true, false};
-ghost use Prim.Native.Nat.{ℕ, _*_, _/_, _<_};
-ghost use lib.ListN.{length};
+ghost use Prim.Native.Nat.{ℕ, _+_, _*_, _<_};
+ghost use lib.Dec.{ltb};
+ghost use lib.ListN.{length, getD, set};
 ghost use lib.Seq.{sets};
 ghost use Rattle.base.specs.Bytes.{part, same};
-ghost use Rattle.names.specs.Held.{one-up, held, visible-in, latest, declared-scope, Declares, opened-scope, closed-scope};
+ghost use Rattle.names.specs.Held.{counts, room, with-counts, one-up, held, visible-in, latest, declared-scope, entered, declared-in, opened-in, closed-in};
 
+// The counts of a scope.
 pub struct Scope {
     // The declarations still visible: so many of the list.
     pub visible: usize,
@@ -26,13 +28,54 @@ pub enum Cell {
     Nowhere,
 }
 
-pub enum Declared {
-    Is(Scope),
-    TooMany,
+// Numbers that the counts take at the head of the list.
+pub const COUNTS: usize = 5;
+
+// Numbers that a declaration takes.
+pub const ENTRY: usize = 4;
+
+// ---- the counts
+
+// The i-th number of the list, 0 past its end.
+fn get(names: &[usize], i: usize) -> usize
+    ensures { λ r. ⌜ r ≡ getD (now (names .entry)) i 0 ⌝ }
+{
+    if i < names.len() {
+        return names[i];
+    }
+    0
 }
 
-// Numbers that a declaration takes in the list.
-pub const ENTRY: usize = 4;
+// The i-th number of the list becomes v, if the list has it.
+fn put(names: &mut [usize], i: usize, v: usize)
+    ensures { λ _. ⌜ now (names .exit) ≡ set (now (names .entry)) i v ⌝ }
+{
+    if i < names.len() {
+        names[i] = v;
+    }
+}
+
+pub fn counts(names: &[usize]) -> Scope
+    ensures { λ r. ⌜ r ≡ counts (now (names .entry)) ⌝ }
+{
+    Scope {
+        visible: get(names, 0),
+        declared: get(names, 1),
+        next_cell: get(names, 2),
+        cells: get(names, 3),
+        blocks: get(names, 4),
+    }
+}
+
+fn put_counts(names: &mut [usize], s: Scope)
+    ensures { λ _. ⌜ now (names .exit) ≡ with-counts (now (names .entry)) s ⌝ }
+{
+    put(names, 0, s.visible);
+    put(names, 1, s.declared);
+    put(names, 2, s.next_cell);
+    put(names, 3, s.cells);
+    put(names, 4, s.blocks);
+}
 
 // One more, as far as numbers go.
 fn one_more(n: usize) -> usize
@@ -43,6 +86,18 @@ fn one_more(n: usize) -> usize
     }
     n
 }
+
+// How many declarations the list has room for.
+fn room(names: &[usize]) -> usize
+    ensures { λ r. ⌜ r ≡ room (now (names .entry)) ⌝ }
+{
+    if names.len() < COUNTS {
+        return 0;
+    }
+    (names.len() - COUNTS) / ENTRY
+}
+
+// ---- a use
 
 // Whether the word is another than any that begins at the place p, by its first letter.
 fn is_other(text: &[u8], p: usize, word: &[u8]) -> bool
@@ -59,10 +114,10 @@ fn is_other(text: &[u8], p: usize, word: &[u8]) -> bool
 
 // Whether the k-th declaration of the list has these letters. Most begin with another letter.
 fn is_named(text: &[u8], names: &[usize], k: usize, word: &[u8]) -> bool
-    requires { ⌜ k < length (now names) / 4 ⌝ }
+    requires { ⌜ k < room (now names) ⌝ }
     ensures { λ r. ⌜ r ≡ same (held (now (text .entry)) (now (names .entry)) k .letters) (now (word .entry)) ⌝ }
 {
-    let at = k * ENTRY;
+    let at = COUNTS + k * ENTRY;
     let p = names[at];
     if is_other(text, p, word) {
         return false;
@@ -72,30 +127,42 @@ fn is_named(text: &[u8], names: &[usize], k: usize, word: &[u8]) -> bool
 }
 
 // The latest visible declaration of the name from the place p up to e.
-pub fn look_up(text: &[u8], names: &[usize], s: Scope, p: usize, e: usize) -> Cell
-    ensures { λ r. ⌜ r ≡ latest (visible-in (now (text .entry)) (now (names .entry)) (s .visible)) (part (now (text .entry)) p e) ⌝ }
+pub fn look_up(text: &[u8], names: &[usize], p: usize, e: usize) -> Cell
+    ensures { λ r. ⌜ r ≡ latest (visible-in (now (text .entry)) (now (names .entry)) (counts (now (names .entry)) .visible)) (part (now (text .entry)) p e) ⌝ }
 {
     let word = base::part(text, p, e);
-    let mut k = base::smaller(s.visible, names.len() / ENTRY);
+    let mut k = base::smaller(get(names, 0), room(names));
     while 0 < k {
         k -= 1;
         if is_named(text, names, k, word) {
-            return Cell::At(names[k * ENTRY + 2]);
+            return Cell::At(names[COUNTS + k * ENTRY + 2]);
         }
     }
     Cell::Nowhere
 }
 
+// ---- a declaration
+
 // The k-th declaration of the list becomes that of the name from p up to e.
 fn enter(names: &mut [usize], k: usize, p: usize, e: usize, cell: usize, block: usize)
-    requires { ⌜ k < length (now names) / 4 ⌝ }
-    ensures { λ _. ⌜ now (names .exit) ≡ sets (now (names .entry)) (k * 4) (p ∷ e ∷ cell ∷ block ∷ []) ⌝ }
+    requires { ⌜ k < room (now names) ⌝ }
+    ensures { λ _. ⌜ now (names .exit) ≡ sets (now (names .entry)) (5 + k * 4) (p ∷ e ∷ cell ∷ block ∷ []) ⌝ }
 {
-    let at = k * ENTRY;
+    let at = COUNTS + k * ENTRY;
     names[at] = p;
     names[at + 1] = e;
     names[at + 2] = cell;
     names[at + 3] = block;
+}
+
+// The list with one declaration more, where it has room.
+fn entered(names: &mut [usize], p: usize, e: usize)
+    ensures { λ _. ⌜ now (names .exit) ≡ entered (now (names .entry)) p e ⌝ }
+{
+    let s = counts(names);
+    if s.visible < room(names) {
+        enter(names, s.visible, p, e, s.next_cell, s.blocks);
+    }
 }
 
 // The counts after one declaration more.
@@ -112,44 +179,47 @@ fn with_one_more(s: Scope) -> Scope
 }
 
 // One declaration more, of the name from the place p up to e; or there are too many.
-pub fn declare(names: &mut [usize], s: Scope, p: usize, e: usize) -> Declared
-    ensures { λ r. ⌜ Declares (now (names .entry)) s p e r (now (names .exit)) ⌝ }
+pub fn declare(names: &mut [usize], p: usize, e: usize) -> bool
+    ensures { λ r. ⌜ r ≡ ltb (counts (now (names .entry)) .declared) (room (now (names .entry))) ⌝ }
+    ensures { λ _. ⌜ now (names .exit) ≡ declared-in (now (names .entry)) p e ⌝ }
 {
-    let room = names.len() / ENTRY;
-    if room <= s.declared {
-        return Declared::TooMany;
+    let s = counts(names);
+    if s.declared < room(names) {
+        entered(names, p, e);
+        put_counts(names, with_one_more(s));
+        return true;
     }
-    let t = with_one_more(s);
-    let k = s.visible;
-    if k < room {
-        enter(names, k, p, e, s.next_cell, s.blocks);
-        return Declared::Is(t);
-    }
-    Declared::Is(t)
+    false
 }
 
-// The scope after an opening brace.
-pub fn open(s: Scope) -> Scope
-    ensures { λ r. ⌜ r ≡ opened-scope s ⌝ }
+// ---- a block
+
+// An opening brace.
+pub fn open(names: &mut [usize])
+    ensures { λ _. ⌜ now (names .exit) ≡ opened-in (now (names .entry)) ⌝ }
 {
-    Scope {
+    let s = counts(names);
+    let t = Scope {
         visible: s.visible,
         declared: s.declared,
         next_cell: s.next_cell,
         cells: s.cells,
         blocks: one_more(s.blocks),
-    }
+    };
+    put_counts(names, t);
 }
 
-// The scope after the closing brace, where `before` was that before the opening one.
-pub fn close(before: Scope, s: Scope) -> Scope
-    ensures { λ r. ⌜ r ≡ closed-scope before s ⌝ }
+// The closing brace of a block, where `before` was counted before the opening one.
+pub fn close(names: &mut [usize], before: Scope)
+    ensures { λ _. ⌜ now (names .exit) ≡ closed-in (now (names .entry)) before ⌝ }
 {
-    Scope {
+    let s = counts(names);
+    let t = Scope {
         visible: before.visible,
         declared: s.declared,
         next_cell: s.next_cell,
         cells: s.cells,
         blocks: before.blocks,
-    }
+    };
+    put_counts(names, t);
 }

@@ -1,12 +1,13 @@
 -- `names::close` meets its contract. Assumes nothing.
 use mathlib.Core.Path.{refl}
-use Rattle.names.specs.Held.{closed-scope}
+use borrow.Author.Needs.{needs}
+use Rattle.names.specs.Held.{closed-in, closed-scope}
 use Rattle.names.proofs.close.Statement.{statement}
 use Rattle.names.proofs.close.Tie as tie
 
 returns : tie.Need-returns
-unfolding closed-scope
-returns c = refl
+unfolding closed-in closed-scope
+returns c = rw (c .before .before .put-counts .ensures, c .before .before .before .before .counts .ensures) refl
 
 pub close-spec : {M : Type 1} → statement M
-close-spec = tie.close (tie.spec returns)
+close-spec = tie.close (tie.spec (λ c κs. search needs) (λ c κs. search needs) (λ c. search needs) returns)

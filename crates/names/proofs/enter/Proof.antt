@@ -18,7 +18,7 @@ slice-write-names-4 c = simp length-set (omega arith)
 
 returns : tie.Need-returns
 returns c =
-    let at = c .args .k * 4 in
+    let at = 5 + c .args .k * 4 in
     let one : at + 1 ≡ suc at = omega arith in
     let two : at + 2 ≡ suc (suc at) = omega arith in
     let three : at + 3 ≡ suc (suc (suc at)) = omega arith in
@@ -28,6 +28,7 @@ pub enter-spec : {M : Type 1} → statement M
 enter-spec =
     tie.close
     (tie.spec
+    (λ c. search needs)
     (λ c. search needs)
     (λ c. search needs)
     (λ c. search needs)

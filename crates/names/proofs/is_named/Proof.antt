@@ -19,6 +19,7 @@ is-named-spec =
     (λ c. search needs)
     (λ c. search needs)
     (λ c. search needs)
+    (λ c. search needs)
     (λ c κs. search needs)
     returns
     (λ c. search needs)
