@@ -21,13 +21,14 @@ use Rattle.lexeme.proofs.Kind.{the-type}
 use Rattle.lexeme.proofs.Places.{refused-goes}
 use Rattle.sentence.specs.Sentences.{Kind, Sen, command, declare, input, assign, error, block, single, then}
 use Rattle.sentence.specs.Reader.{Around, State, after-command}
+use Rattle.names.specs.Held.{counts, declared-in, opened-in, closed-in}
 use Rattle.compiler.specs.declared.walk.Walk.{Walk}
 use Rattle.compiler.specs.declared.walk.Gives.{Gives}
 use Rattle.compiler.specs.declared.walk.Read.{Read}
 use Rattle.compiler.specs.declared.walk.Read.the-variants.{Done, Refused}
-use Rattle.compiler.specs.Steps.{moved-to, one-instruction, Follows, Past, Advances, Expects, printing-number, cell-of, noted-walk, cell-number, Declares-ahead, before-body, ended-walk, ended-table, opened-walk, closed-walk, in-scope}
+use Rattle.compiler.specs.Steps.{moved-to, one-instruction, Follows, Past, Advances, Expects, printing-number, cell-of, noted-walk, cell-number, declared-walk, before-body, ended-walk, ended-table}
 use Rattle.compiler.specs.Tables.{put}
-use Rattle.compiler.specs.Walks.{name-of, Lays, Ready, Reads, Reads-command, Reads-block, Reads-string, Reads-declare, Reads-read, Reads-assign}
+use Rattle.compiler.specs.Walks.{name-of, Lays, Ready, First, Reads, Reads-command, Reads-block, Reads-string, Reads-declare, Reads-read, Reads-assign}
 use Rattle.compiler.proofs.Commands.{command-way, string-way, declare-way, read-way, assign-way, guarded-way, block-way, block-so-far, quoted-printed, name-declared, name-read, assign-leads, no-becomes, guarded-leads, block-first, block-more, block-closed, block-lost, error-read, Begins, begun-leads}
 use Rattle.compiler.proofs.Lays.{quoted, guarded, lead, lays-error, lays-quoted, lays-guarded, lays-single, lays-then, ready-body}
 use Rattle.compiler.proofs.Looked.{quoted-of, going}
@@ -67,11 +68,6 @@ module _ {k : Kind} (way : Way k (Sen Name k)) {text names names′ : List ℕ} 
 
 -- ---- a command that the lexeme ahead ends
 
--- a declaration leaves it
-pub given-next : (names : List ℕ) (w z : Walk) (names′ : List ℕ) → Declares-ahead names (one-instruction (one-instruction w)) z names′ → z .next ≡ w .next
-unfolding one-instruction
-given-next names w z names′ d = ap (λ (v : Walk). v .next) (declared-is names (one-instruction (one-instruction w)) z names′ d)
-
 module _ {text names : List ℕ} {w : Walk} {allow : ℕ} (ready : Ready text names w allow) (table : List ℤ) where
   pub printed : (line : Bool) → w .next .kind ≡ kind.Str → (r : Read) → Advances text (one-instruction w) 0 r → Reads-string line text names table w allow r names (put table (w .code) (printing-number line ∷ pos (w .next .place + 1) ∷ []))
   unfolding moved-to one-instruction quoted-of
@@ -79,32 +75,33 @@ module _ {text names : List ℕ} {w : Walk} {allow : ℕ} (ready : Ready text na
       advanced (string-way line) (one-instruction w)
       (λ m f.
       let p = quoted-printed (ready .stands) allow line h f in
-      record { what = quoted line (quoted-of text (w .next)); passed = p; laid = lays-quoted line (quoted-of text (w .next)) m refl (p .later) (ready .fine) })
+      record { what = quoted line (quoted-of text (w .next)); passed = p; laid = lays-quoted line (quoted-of text (w .next)) m refl (p .later) (ready .sound) })
       (λ why p e. lost-ahead (string-way line) allow (ready .stands) e) r a
 
   module _ (h : w .next .kind ≡ kind.Name) where
-    pub name-given : (z : Walk) (names′ : List ℕ) → Declares-ahead names (one-instruction (one-instruction w)) z names′ → (r : Read) → Advances text z 1 r →
-        Reads-declare text names table w allow r names′ (put (put table (w .code) (pos 2 ∷ pos 0 ∷ [])) (w .code + 1) (pos 4 ∷ pos (w .scope .«next_cell») ∷ []))
+    pub name-given : (r : Read) → Advances text (declared-walk names (one-instruction (one-instruction w))) 1 r →
+        Reads-declare text names table w allow r (declared-in names (w .next .place) (w .next .end)) (put (put table (w .code) (pos 2 ∷ pos 0 ∷ [])) (w .code + 1) (pos 4 ∷ pos (counts names .«next_cell») ∷ []))
     unfolding moved-to one-instruction
-    name-given z names′ d r a =
-        let same = given-next names w z names′ d in
+    name-given r a =
+        let z = declared-walk names (one-instruction (one-instruction w)) in
+        let same : z .next ≡ w .next = ap (λ (v : Walk). v .next) (declared-is names (one-instruction (one-instruction w))) in
         advanced declare-way z
         (λ m f.
         let p = name-declared (ready .stands) allow h (rw same at f) in
-        record { what = declare (name-of text (w .next)); passed = p; laid = lays-declare z m (p .later) (ready .fine) d })
+        record { what = declare (name-of text (w .next)); passed = p; laid = lays-declare m (p .later) (ready .sound) })
         (λ why p e. lost-ahead declare-way allow (ready .stands) (rw same at e)) r a
 
-    pub name-stored : let c = cell-of text names (one-instruction w) (w .next) in (r : Read) → Advances text (one-instruction (noted-walk c (one-instruction w) (w .next .place))) 1 r →
+    pub name-stored : let c = cell-of text names (w .next) in (r : Read) → Advances text (one-instruction (noted-walk c (one-instruction w) (w .next .place))) 1 r →
         Reads-read text names table w allow r names (put (put table (w .code) (pos 16 ∷ pos 0 ∷ [])) (w .code + 1) (pos 4 ∷ pos (cell-number c) ∷ []))
-    unfolding moved-to one-instruction cell-of
+    unfolding moved-to one-instruction
     name-stored r a =
-        let c = cell-of text names (one-instruction w) (w .next) in
+        let c = cell-of text names (w .next) in
         let z = one-instruction (noted-walk c (one-instruction w) (w .next .place)) in
         let same : z .next ≡ w .next = ap (λ (v : Walk). v .next) (noted-is c (one-instruction w) (w .next .place)) in
         advanced read-way z
         (λ m f.
         let p = name-read (ready .stands) allow h (rw same at f) in
-        record { what = input (name-of text (w .next)); passed = p; laid = lays-input m (p .later) (ready .fine) })
+        record { what = input (name-of text (w .next)); passed = p; laid = lays-input m (p .later) (ready .sound) })
         (λ why p e. lost-ahead read-way allow (ready .stands) (rw same at e)) r a
 
 -- ---- a fixed lexeme that was expected, and met
@@ -126,13 +123,13 @@ crossed text w f need {v} {g} e x = by (rw e at x)
 module _ {text names : List ℕ} {w : Walk} {allow : ℕ} (ready : Ready text names w allow) (l : code.Lexeme) where
   -- the walk in which `:=` is expected
   abbrev pub named-walk : Walk
-  named-walk = noted-walk (cell-of text names w l) w (l .place)
+  named-walk = noted-walk (cell-of text names l) w (l .place)
 
   named-next : named-walk .next ≡ w .next
-  named-next = ap (λ (v : Walk). v .next) (noted-is (cell-of text names w l) w (l .place))
+  named-next = ap (λ (v : Walk). v .next) (noted-is (cell-of text names l) w (l .place))
 
   pub ready-named : Ready text names named-walk allow
-  ready-named = ready-noted ready (cell-of text names w l) (l .place)
+  ready-named = ready-noted ready (cell-of text names l) (l .place)
 
   -- it is not met
   pub no-value : (table : List ℤ) (names′ : List ℕ) (table′ : List ℤ) {r : Read} {why : Refusal} {p : ℕ} → r ≡ Refused why p → Expects text named-walk (code-of becomes) 0 r → Reads-assign l text names table w allow r names′ table′
@@ -147,21 +144,16 @@ module _ {text names : List ℕ} {w : Walk} {allow : ℕ} (ready : Ready text na
     pub value-leads : Leads text (w .next) (x .next) allow (assign-way (name-of text l)) allow expression-way (assign (name-of text l))
     value-leads = assign-leads allow (name-of text l) (ready .stands) (rw named-next at (becomes-met .met))
 
-    pub assigned : {table table′ : List ℤ} {v : Walk} {g : Gives} → Got expression-way text names table x allow names table′ v g → Got (assign-way (name-of text l)) text names table w allow names (put table′ (v .code) (pos 4 ∷ pos (cell-number (cell-of text names w l)) ∷ [])) (one-instruction v) g
+    pub assigned : {table table′ : List ℤ} {v : Walk} {g : Gives} → Got expression-way text names table x allow names table′ v g → Got (assign-way (name-of text l)) text names table w allow names (put table′ (v .code) (pos 4 ∷ pos (cell-number (cell-of text names l)) ∷ [])) (one-instruction v) g
     unfolding one-instruction
     assigned {table} {table′} {v} {g} value =
         record {
           what = assign (name-of text l) (value .what);
           passed = value-leads .passes (value .what) (value .passed);
-          laid = lays-assign l (x .next) (omega (arith, ap (λ (m : code.Lexeme). m .place) named-next, ready .stands .order, ap (λ (m : code.Lexeme). m .end) named-next, becomes-met .past .follows .later)) (ready .fine) (subst (λ (u : Walk). Lays text names table u (value .what) names table′ v g) (becomes-met .past .moved) (value .laid));
+          laid = lays-assign l (x .next) (omega (arith, ap (λ (m : code.Lexeme). m .place) named-next, ready .stands .order, ap (λ (m : code.Lexeme). m .end) named-next, becomes-met .past .follows .later)) (ready .sound) (subst (λ (u : Walk). Lays text names table u (value .what) names table′ v g) (becomes-met .past .moved) (value .laid));
         }
 
 -- ---- the first lexeme of a command
-
--- the walk x is after it
-pub record First (text names : List ℕ) (w : Walk) (allow : ℕ) (x : Walk) : Type 0 where
-  pub ready : Ready text names w allow
-  pub past : Past text w x
 
 module _ {text names : List ℕ} {w x : Walk} {allow : ℕ} (f : First text names w allow x) where
   pub ready-first : {fewer : ℕ} → fewer ≤ allow → Ready text names x fewer
@@ -179,13 +171,13 @@ module _ {text names : List ℕ} {w x : Walk} {allow : ℕ} (f : First text name
   error-done {table} h =
       let p = error-read (f .ready .stands) allow h (f .past .follows) in
       subst (λ (u : Walk). Got command-way text names table w allow names (put table (u .code) (pos 1 ∷ pos 1 ∷ [])) (one-instruction u) (record { need = 0 })) (sym (f .past .moved))
-      (record { what = error; passed = p; laid = lays-error (x .next) (p .later) (f .ready .fine) })
+      (record { what = error; passed = p; laid = lays-error (x .next) (p .later) (f .ready .sound) })
 
 -- ---- a condition, and the lexeme before the body
 
 -- with fewer nestings allowed
 pub ready-inside : {text names : List ℕ} {w : Walk} {allow : ℕ} → Ready text names w (suc allow) → Ready text names w allow
-ready-inside r = record { stands = r .stands; short = r .short; code = r .code; fine = r .fine; allowed = omega (arith, r .allowed) }
+ready-inside r = record { stands = r .stands; short = r .short; code = r .code; sound = r .sound; allowed = omega (arith, r .allowed) }
 
 before-some : (again : Bool) → code-of (before-body again) ≡ 0 → ⊥
 unfolding before-body code-of
@@ -258,19 +250,21 @@ module _ {text names names′ : List ℕ} {table table′ : List ℤ} {w v : Wal
       Got block-so-far text names table w (suc allow) names₂ table₂ y (record { need = max (g .need) (h .need) })
   so-far-more b n q = record { what = then (b .what) (q .what); passed = block-more _ (b .what) (b .passed) n .passes (q .what) (q .passed); laid = lays-then (b .laid) (q .laid) }
 
-  pub so-far-closed : Ready text names w (suc allow) → Got block-so-far text names table (opened-walk w) (suc allow) names′ table′ v g → fixed-number (v .next .kind) ≡ code-of close-brace → (r : Read) → Advances text (closed-walk w v) (g .need) r → Reads-block text names table w allow r names′ table′
-  unfolding moved-to opened-walk closed-walk in-scope
+-- the block around them, with its declarations and theirs
+module _ {text names names′ : List ℕ} {table table′ : List ℤ} {w v : Walk} {allow : ℕ} {g : Gives} where
+  pub so-far-closed : Ready text names w (suc allow) → Got block-so-far text (opened-in names) table w (suc allow) names′ table′ v g → fixed-number (v .next .kind) ≡ code-of close-brace → (r : Read) → Advances text v (g .need) r → Reads-block text names table w allow r (closed-in names′ (counts names)) table′
+  unfolding moved-to
   so-far-closed ready b n r a =
-      advanced block-way (closed-walk w v)
+      advanced block-way v
       (λ m f. record {
         what = block (b .what);
         passed = block-closed allow (b .what) (b .passed) n f;
-        laid = lays-block (ready .fine) (omega (arith, ready .allowed)) (b .laid) m (omega (arith, b .passed .stands .order, f .later));
+        laid = lays-block (ready .sound) (omega (arith, ready .allowed)) (b .laid) m (omega (arith, b .passed .stands .order, f .later));
       })
       (λ why p e. block-lost allow (b .what) (b .passed) n e) r a
 
 -- the rounds of its loop lead to the walk `done`, whatever was read before the loop
-pub record More (text : List ℕ) (allow : ℕ) (w : Walk) (names₀ : List ℕ) (table₀ : List ℤ) (done₀ : Walk) (need₀ : ℕ) (names : List ℕ) (table : List ℤ) (done : Walk) (need : ℕ) : Type 0 where
+pub record More (text : List ℕ) (allow : ℕ) (names₀ : List ℕ) (table₀ : List ℤ) (done₀ : Walk) (need₀ : ℕ) (names : List ℕ) (table : List ℤ) (done : Walk) (need : ℕ) : Type 0 where
   pub count-names : length names ≡ length names₀
   pub count-table : length table ≡ length table₀
-  pub on : (before : List ℕ) (before-table : List ℤ) → Got block-so-far text before before-table w (suc allow) names₀ table₀ done₀ (record { need = need₀ }) → Got block-so-far text before before-table w (suc allow) names table done (record { need = need })
+  pub on : (before : List ℕ) (before-table : List ℤ) (w : Walk) → Got block-so-far text before before-table w (suc allow) names₀ table₀ done₀ (record { need = need₀ }) → Got block-so-far text before before-table w (suc allow) names table done (record { need = need })

@@ -1,13 +1,15 @@
 -- How commands and Programs are read: a law for each way that their readers come to an answer. Assumes nothing.
 use mathlib.Core.Path.{_≡_, refl, _∙_}
-use mathlib.Core.List.{List, [], _∷_}
+use mathlib.Core.List.{List}
 use mathlib.Core.Bool.{Bool, true, false}
 use mathlib.Core.Logic.{inl, inr}
 use Prim.Native.Nat.{ℕ, suc, _+_, _≤_, _<_}
 use native.Mathlib.Nat.{add-zero, le-refl}
 use native.Mathlib.Numerals.{add-one}
 use native.Mathlib.Omega.{arith}
-use types.Run.{OneOf}
+use mathlib.Mathlib.Data.Bool.Basic.{or-eq-false-eq-eq-false-and-eq-false}
+use lib.Dec.{eqb}
+use borrow.Author.Tests.{eqb-true, eqb-false}
 use Rattle.base.specs.declared.Refusal.{Refusal}
 use Rattle.base.specs.declared.Refusal.the-variants.{NoProgram, TooDeep}
 use Rattle.base.specs.Answers.{given, refused}
@@ -18,9 +20,10 @@ use Rattle.lexeme.specs.declared.Found.the-variants as reply
 use Rattle.lexeme.specs.declared.Lexeme as code
 use Rattle.sentence.specs.Sentences.{Sen, condition, command, commands, print, print-line, print-string, declare, input, assign, error, while, when, block, single, then}
 use Rattle.sentence.specs.Reader.{Around, depth, in-print, in-assign, in-while, in-when, in-while-body, in-when-body, in-block, in-block-after, in-program, State, want-DO, want-expression, want-condition, want-command, want-declared, want-read, want-becomes, got-command, nowhere, is, on, on-name, on-string, at-command, at-command-or-brace, after-command, after-condition, whole-expression, step, verdict, goes-on, read}
+use Rattle.sentence.proofs.Operators.{either}
 use Rattle.compiler.specs.declared.walk.Walk.{Walk}
 use Rattle.compiler.specs.declared.walk.Read.the-variants.{Refused}
-use Rattle.compiler.specs.Steps.{Follows, Expects, before-body}
+use Rattle.compiler.specs.Steps.{Follows, Expects, has-body, before-body}
 use Rattle.compiler.specs.Walks.{name-of, want-quoted, want-guarded, want-nested}
 use Rattle.compiler.proofs.Lays.{quoted, guarded}
 use Rattle.compiler.proofs.Looked.{quoted-of, going, name-goes, string-goes, told-name, told-string, told-fixed, no-fixed, no-name, no-string}
@@ -217,11 +220,15 @@ module _ {text : List ℕ} {l : code.Lexeme} (s : Stands text l) where
   unfolding is at-command on on-name code-of verdict
   begins-read h = begins-fixed READ 0 want-read h (λ z. omega arith) (λ a. refl) (λ a. rw add-zero)
 
-  pub begins-nested : OneOf (6 ∷ 21 ∷ 123 ∷ []) (fixed-number (l .kind)) → Begins 1 (want-nested (fixed-number (l .kind)))
-  unfolding is at-command on on-name code-of verdict depth want-guarded want-nested
-  begins-nested (inl h) = rw h (begins-fixed IF 1 (want-guarded false) h (λ z. omega arith) (λ a. refl) (λ a. rw add-one))
-  begins-nested (inr (inl h)) = rw h (begins-fixed WHILE 1 (want-guarded true) h (λ z. omega arith) (λ a. refl) (λ a. rw add-one))
-  begins-nested (inr (inr h)) = rw h (begins-fixed open-brace 1 (λ a. want-command (in-block a)) h (λ z. omega arith) (λ a. refl) (λ a. rw add-one))
+  pub begins-nested : has-body (fixed-number (l .kind)) ≡ true → Begins 1 (want-nested (fixed-number (l .kind)))
+  unfolding has-body is at-command on on-name code-of verdict depth want-guarded want-nested
+  begins-nested h = elim (either (fixed-number (l .kind)) (code-of IF) _ h) [
+    | inl e ↦ rw e (begins-fixed IF 1 (want-guarded false) e (λ z. omega arith) (λ a. refl) (λ a. rw add-one))
+    | inr g ↦ elim (either (fixed-number (l .kind)) (code-of WHILE) _ g) [
+      | inl e ↦ rw e (begins-fixed WHILE 1 (want-guarded true) e (λ z. omega arith) (λ a. refl) (λ a. rw add-one))
+      | inr e ↦ let o = eqb-true (fixed-number (l .kind)) (code-of open-brace) e in rw o (begins-fixed open-brace 1 (λ a. want-command (in-block a)) o (λ z. omega arith) (λ a. refl) (λ a. rw add-one))
+    ]
+  ]
 
   module _ {deeper : ℕ} {start : Around command → State} (b : Begins deeper start) where
     pub begun-leads : {m : code.Lexeme} {allow allow′ : ℕ} → deeper ≤ allow → allow′ ≡ allow → Follows text l m → Leads text l m allow command-way allow′ (command-from start) (λ m. m)
@@ -234,12 +241,14 @@ module _ {text : List ℕ} {l : code.Lexeme} (s : Stands text l) where
 
   pub no-command : (allow : ℕ) → (l .kind ≡ kind.Name → ⊥)
       → (fixed-number (l .kind) ≡ code-of ERROR → ⊥) → (fixed-number (l .kind) ≡ code-of INT → ⊥) → (fixed-number (l .kind) ≡ code-of PRINTI → ⊥) → (fixed-number (l .kind) ≡ code-of PRINTLNS → ⊥) → (fixed-number (l .kind) ≡ code-of PRINTS → ⊥) → (fixed-number (l .kind) ≡ code-of READ → ⊥)
-      → (OneOf (6 ∷ 21 ∷ 123 ∷ []) (fixed-number (l .kind)) → ⊥)
+      → has-body (fixed-number (l .kind)) ≡ false
       → Barred command-way text l allow NoProgram (l .place)
-  unfolding step at-command on code-of
+  unfolding step at-command on code-of has-body
   no-command allow n e i p q t g o =
+      let n₁ = or-eq-false-eq-eq-false-and-eq-false (eqb (fixed-number (l .kind)) (code-of IF)) _ .0 o in
+      let n₂ = or-eq-false-eq-eq-false-and-eq-false (eqb (fixed-number (l .kind)) (code-of WHILE)) _ .0 (n₁ .1) in
       no-command-from s allow want-command
-      (λ a. rw (no-fixed s PRINTI p, no-fixed s PRINTLNS q, no-fixed s PRINTS t, no-fixed s INT i, no-fixed s READ g, no-name text l n, no-fixed s ERROR e, no-fixed s WHILE (λ h. o (inr (inl h))), no-fixed s IF (λ h. o (inl h)), no-fixed s open-brace (λ h. o (inr (inr h)))))
+      (λ a. rw (no-fixed s PRINTI p, no-fixed s PRINTLNS q, no-fixed s PRINTS t, no-fixed s INT i, no-fixed s READ g, no-name text l n, no-fixed s ERROR e, no-fixed s WHILE (eqb-false _ _ (n₂ .0)), no-fixed s IF (eqb-false _ _ (n₁ .0)), no-fixed s open-brace (eqb-false _ _ (n₂ .1))))
 
 -- ---- a Program
 

@@ -22,8 +22,9 @@ use Rattle.lexeme.specs.declared.Found.the-variants as found
 use Rattle.lexeme.proofs.Ahead.{lexemes-ahead}
 use Rattle.sentence.specs.Sentences.{Sen, command}
 use Rattle.sentence.specs.Reader.{read}
-use Rattle.names.specs.Names.{Scope, Known, resolved}
-use Rattle.names.specs.Held.{scope-in, visible-in}
+use Rattle.names.specs.Names.{Scope, Known, nothing-declared, resolved}
+use Rattle.names.specs.Held.{counts, room, scope-in}
+use Rattle.names.proofs.Held.{nothing-scope}
 use Rattle.instruction.specs.Instructions.{halt, push-int, pair}
 use Rattle.meaning.specs.Layout.{size, need, code, program-code, program-need}
 use Rattle.meaning.proofs.Laid.{laid-program}
@@ -54,17 +55,18 @@ record Ran (limit : ℕ) (text names : List ℕ) (table : List ℤ) (place : ℕ
   reads : (sizes : Sizes) (ls : List Placed) → sizes .literal ≤ 2147483647 → lexemes sizes text ≡ given ls → read limit ls ≡ given tree
   lays : Lays text names table (start-at place) tree names′ table′ v g
   within : v .next .place ≤ length text
+  fresh : scope-in text names ≡ nothing-declared
 
 from-start : (text : List ℕ) (sizes : Sizes) (ls : List Placed) → sizes .literal ≤ 2147483647 → lexemes sizes text ≡ given ls → From-start text ls
 unfolding From-start
 from-start text sizes ls small lx = lexemes-ahead sizes text ls small lx
 
-module _ (limit : ℕ) (text names : List ℕ) (table : List ℤ) (place : ℕ) {r : Read} (names′ : List ℕ) (table′ : List ℤ) (d : Reads-program limit text names table place r names′ table′) where
+module _ (limit : ℕ) (text names : List ℕ) (table : List ℤ) (place : ℕ) (o : Set-out text names place) {r : Read} (names′ : List ℕ) (table′ : List ℤ) (d : Reads-program limit text names table place r names′ table′) where
   ran : {v : Walk} {g : Gives} → r ≡ read.Done v g → Ran limit text names table place names′ table′ v g
   unfolding Reads-program
   ran {v} {g} is =
       let e : Reads-program limit text names table place (read.Done v g) names′ table′ = rw is at d in
-      record { tree = e .0; reads = λ sizes ls small lx. e .1 ls (from-start text sizes ls small lx); lays = e .2; within = e .3 }
+      record { tree = e .0; reads = λ sizes ls small lx. e .1 ls (from-start text sizes ls small lx); lays = e .2; within = e .3; fresh = nothing-scope names (o .zeros) text }
 
   not-read : {why : Refusal} {p : ℕ} → r ≡ read.Refused why p → (sizes : Sizes) (ls : List Placed) → sizes .literal ≤ 2147483647 → lexemes sizes text ≡ given ls → read limit ls ≡ refused why p
   unfolding Reads-program
@@ -73,48 +75,48 @@ module _ (limit : ℕ) (text names : List ℕ) (table : List ℤ) (place : ℕ) 
       e ls (from-start text sizes ls small lx)
 
   -- the counts are in the range of the code's numbers
-  pub counted : {v : Walk} {g : Gives} → r ≡ read.Done v g → Set-out text names place → Counted v g
+  pub counted : {v : Walk} {g : Gives} → r ≡ read.Done v g → Counted (counts names′ .cells) v g
   unfolding spare
-  counted is o =
+  counted is =
       let q = ran is in
-      let s = q .lays .fine .sound in
-      record { code = omega (arith, q .lays .small .code, q .within, o .short, o .code); cells = omega (arith, s .cells, s .declared, s .room); need = omega (arith, q .lays .small .need, q .within, o .short) }
+      let s = q .lays .sound in
+      record { few = omega (arith, s .cells, s .declared, s .size); code = omega (arith, q .lays .small .code, q .within, o .short, o .code); need = omega (arith, q .lays .small .need, q .within, o .short) }
 
 -- a tree that was named with no fault, and the walk's counts of its code
-record Settled (limit : ℕ) (tree : Sen Name command) (place : ℕ) (v : Walk) (g : Gives) : Type 0 where
+record Settled (limit : ℕ) (tree : Sen Name command) (place cells : ℕ) (v : Walk) (g : Gives) : Type 0 where
   known : Known (Sen ℕ command)
   are-known : resolved limit tree ≡ given known
-  cells : known .scope .cells ≡ v .scope .cells
+  cells-are : known .scope .cells ≡ cells
   size-is : v .code ≡ place + size (known .what)
   need-is : g .need ≡ need (known .what)
 
 -- nothing is declared where a Program begins, so that its names are those of the definition
 module _ {limit : ℕ} {text names names′ : List ℕ} {table table′ : List ℤ} {place : ℕ} {v : Walk} {g : Gives} (q : Ran limit text names table place names′ table′ v g) where
-  naming : stand text names′ v ≡ pass (resolved (length names / 4) (q .tree)) scope-of
-  unfolding named pass stand standing scope-in visible-in resolved
-  naming = q .lays .naming
+  naming : stand text names′ v ≡ pass (resolved (room names) (q .tree)) scope-of
+  unfolding named pass stand standing resolved
+  naming = rw (q .fresh) at (q .lays .naming)
 
-  laying : (k : Known (Sen ℕ command)) → resolved (length names / 4) (q .tree) ≡ given k → Laid table table′ (start-at place) v g (k .what)
-  unfolding named pass stand standing scope-in visible-in resolved
-  laying = q .lays .laying
+  laying : (k : Known (Sen ℕ command)) → resolved (room names) (q .tree) ≡ given k → Laid table table′ (start-at place) v g (k .what)
+  unfolding named pass stand standing resolved
+  laying = rw (q .fresh) at (q .lays .laying)
 
-  unnamed : {why : Refusal} {p : ℕ} → v .fault ≡ fault.Is why p → resolved (length names / 4) (q .tree) ≡ refused why p
+  unnamed : {why : Refusal} {p : ℕ} → v .fault ≡ fault.Is why p → resolved (room names) (q .tree) ≡ refused why p
   unfolding pass scope-of stand standing
-  unnamed {why} {p} f = by (resolved (length names / 4) (q .tree)) (rw f at naming)
+  unnamed {why} {p} f = by (resolved (room names) (q .tree)) (rw f at naming)
     where
       by : (a : A.Answer (Known (Sen ℕ command))) → refused why p ≡ pass a scope-of → a ≡ refused why p
       by (given k) e = never (sym e)
       by (refused k p) e = cc
 
-  settled : v .fault ≡ fault.Nothing → Settled (length names / 4) (q .tree) place v g
+  settled : v .fault ≡ fault.Nothing → Settled (room names) (q .tree) place (counts names′ .cells) v g
   unfolding pass scope-of stand standing scope-in
-  settled f = by (resolved (length names / 4) (q .tree)) refl (rw f at naming)
+  settled f = by (resolved (room names) (q .tree)) refl (rw f at naming)
     where
-      by : (a : A.Answer (Known (Sen ℕ command))) → resolved (length names / 4) (q .tree) ≡ a → given (scope-in text names′ (v .scope)) ≡ pass a scope-of → Settled (length names / 4) (q .tree) place v g
+      by : (a : A.Answer (Known (Sen ℕ command))) → resolved (room names) (q .tree) ≡ a → given (scope-in text names′) ≡ pass a scope-of → Settled (room names) (q .tree) place (counts names′ .cells) v g
       by (given k) e h =
           let l = laying k e in
-          let s : scope-in text names′ (v .scope) ≡ k .scope = cc in
-          record { known = k; are-known = e; cells = ap (λ (t : Scope). t .cells) (sym s); size-is = l .code; need-is = l .need }
+          let s : scope-in text names′ ≡ k .scope = cc in
+          record { known = k; are-known = e; cells-are = ap (λ (t : Scope). t .cells) (sym s); size-is = l .code; need-is = l .need }
       by (refused k p) e h = never h
 
 -- ---- the table
@@ -126,15 +128,15 @@ whole-written table cells y =
     let o = replicate cells (push-int (pos 0)) in
     sym (emit-append table 0 o (code cells y ++ halt 0 ∷ []) ∙ rw (length-replicate, zero-add) (emit-code (emit table 0 o) cells y (halt 0 ∷ []) ∙ emit-one (emit (emit table 0 o) cells (code cells y)) (cells + size y) (halt 0)))
 
-module _ (limit : ℕ) (text names : List ℕ) (table : List ℤ) (cells : ℕ) {r : Read} (names′ : List ℕ) (table′ : List ℤ) (d : Reads-program limit text names (opening cells table) cells r names′ table′) where
-  pub not-written : {why : Refusal} {p : ℕ} → r ≡ read.Refused why p → Written limit (length names / 4) text cells table table′
+module _ (limit : ℕ) (text names : List ℕ) (table : List ℤ) (cells : ℕ) (o : Set-out text names cells) {r : Read} (names′ : List ℕ) (table′ : List ℤ) (d : Reads-program limit text names (opening cells table) cells r names′ table′) where
+  pub not-written : {why : Refusal} {p : ℕ} → r ≡ read.Refused why p → Written limit (room names) text cells table table′
   unfolding Written
-  not-written is sizes ls m k small lx rd rs c = never (sym rd ∙ not-read limit text names (opening cells table) cells names′ table′ d is sizes ls small lx)
+  not-written is sizes ls m k small lx rd rs c = never (sym rd ∙ not-read limit text names (opening cells table) cells o names′ table′ d is sizes ls small lx)
 
-  pub written : {v : Walk} {g : Gives} → r ≡ read.Done v g → Written limit (length names / 4) text cells table (put table′ (v .code) (pos 1 ∷ pos 0 ∷ []))
+  pub written : {v : Walk} {g : Gives} → r ≡ read.Done v g → Written limit (room names) text cells table (put table′ (v .code) (pos 1 ∷ pos 0 ∷ []))
   unfolding Written
   written is sizes ls m k small lx rd rs c =
-      let q = ran limit text names (opening cells table) cells names′ table′ d is in
+      let q = ran limit text names (opening cells table) cells o names′ table′ d is in
       let t : given (q .tree) ≡ given m = sym (q .reads sizes ls small lx) ∙ rd in
       let same : q .tree ≡ m = cc in
       let l = laying q k (rw same rs) in
@@ -143,13 +145,10 @@ module _ (limit : ℕ) (text names : List ℕ) (table : List ℤ) (cells : ℕ) 
 -- ---- what the sentences decide
 
 -- by 8, or by none: the walk's counts are those of the code
-sized : (limit : ℕ) (v : Walk) (g : Gives) (y : Sen ℕ command) → v .code ≡ size y → g .need ≡ need y → settled-by limit v g fault.Nothing ≡ answered (at-most limit (record { command = y; cells = v .scope .cells }))
+sized : (limit cells : ℕ) (v : Walk) (g : Gives) (y : Sen ℕ command) → v .code ≡ size y → g .need ≡ need y → settled-by limit cells v g fault.Nothing ≡ answered (at-most limit (record { command = y; cells = cells }))
 unfolding settled-by at-most code-of-text answered program-need
-sized limit v g y s n = rw long (by (ltb limit m))
+sized limit cells v g y s n = rw long (by (ltb limit m))
   where
-    cells : ℕ
-    cells = v .scope .cells
-
     m : ℕ
     m = cells + v .code + 1
 
@@ -160,23 +159,23 @@ sized limit v g y s n = rw long (by (ltb limit m))
     by true = refl
     by false = rw (long, n)
 
-module _ (nesting instructions : ℕ) (text names : List ℕ) (none : List ℤ) {r : Read} (names′ : List ℕ) (none′ : List ℤ) (d : Reads-program nesting text names none 0 r names′ none′) where
+module _ (nesting instructions : ℕ) (text names : List ℕ) (none : List ℤ) (o : Set-out text names 0) {r : Read} (names′ : List ℕ) (none′ : List ℤ) (d : Reads-program nesting text names none 0 r names′ none′) where
   -- by 4 or 5
-  pub by-reading : {why : Refusal} {p : ℕ} → r ≡ read.Refused why p → Measured nesting (length names / 4) instructions text (Refused why p)
+  pub by-reading : {why : Refusal} {p : ℕ} → r ≡ read.Refused why p → Measured nesting (room names) instructions text (Refused why p)
   unfolding Measured measured pass answered
-  by-reading is sizes ls small lx = rw (not-read nesting text names none 0 names′ none′ d is sizes ls small lx)
+  by-reading is sizes ls small lx = rw (not-read nesting text names none 0 o names′ none′ d is sizes ls small lx)
 
   -- by 6 or 7, by 8, or by none of them
-  pub by-naming : {v : Walk} {g : Gives} → r ≡ read.Done v g → (a : Answer) → a ≡ settled-by instructions v g (v .fault) → Measured nesting (length names / 4) instructions text a
+  pub by-naming : {v : Walk} {g : Gives} → r ≡ read.Done v g → (a : Answer) → a ≡ settled-by instructions (counts names′ .cells) v g (v .fault) → Measured nesting (room names) instructions text a
   unfolding Measured measured pass
   by-naming {v} {g} is a e sizes ls small lx = rw (it .reads sizes ls small lx) (e ∙ by (v .fault) refl)
     where
       it : Ran nesting text names none 0 names′ none′ v g
-      it = ran nesting text names none 0 names′ none′ d is
+      it = ran nesting text names none 0 o names′ none′ d is
 
-      by : (f : Fault) → v .fault ≡ f → settled-by instructions v g f ≡ answered (pass (resolved (length names / 4) (it .tree)) λ k. at-most instructions (record { command = k .what; cells = k .scope .cells }))
+      by : (f : Fault) → v .fault ≡ f → settled-by instructions (counts names′ .cells) v g f ≡ answered (pass (resolved (room names) (it .tree)) λ k. at-most instructions (record { command = k .what; cells = k .scope .cells }))
       by (fault.Is why p) f = unfold settled-by answered in rw (unnamed it f)
-      by fault.Nothing f = let k = settled it f in rw (k .are-known, k .cells) (sized instructions v g (k .known .what) (omega (arith, k .size-is)) (k .need-is))
+      by fault.Nothing f = let k = settled it f in rw (k .are-known, k .cells-are) (sized instructions (counts names′ .cells) v g (k .known .what) (omega (arith, k .size-is)) (k .need-is))
 
 -- ---- what the bytes decide
 

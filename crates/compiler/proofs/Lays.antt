@@ -15,7 +15,7 @@ use Rattle.lexeme.specs.declared.Lexeme.{Lexeme}
 use Rattle.sentence.specs.Sentences.{Sign, plus, minus, Mul, Rel, sign, mul, rel, Kind, Sen, factor, term, expression, condition, command, commands, literal, bracket, first, multiply, unsigned, signed, add, negated, compare, print, print-line, print-string, error, while, when, single, then}
 use Rattle.sentence.proofs.Operators.{number-of}
 use Rattle.names.specs.Names.{Scope, Known, Naming, _>>=_, give, resolve}
-use Rattle.names.specs.Held.{Kept}
+use Rattle.names.specs.Held.{room, Sound, Kept}
 use Rattle.names.proofs.Held.{kept-all, kept-then}
 use Rattle.instruction.specs.Numbers.{Two-sided}
 use Rattle.instruction.specs.Instructions.{Instruction, halt, push-int, jump, jump-if-false, two-sided, negate, not, print-int, print-str, print-str-ln, number, pair}
@@ -24,7 +24,7 @@ use Rattle.compiler.specs.declared.walk.Walk.{Walk}
 use Rattle.compiler.specs.declared.walk.Gives.{Gives}
 use Rattle.compiler.specs.Steps.{moved-to, one-instruction, printing-number, ended-walk, ended-table, operation-number}
 use Rattle.compiler.specs.Tables.{put, emit}
-use Rattle.compiler.specs.Walks.{stand, named, scope-of, Laid, spare, Small, Fine, Lays, Ready}
+use Rattle.compiler.specs.Walks.{stand, named, scope-of, Laid, spare, Small, Lays, Ready}
 use Rattle.compiler.proofs.Emits.{emit-code, emit-one, put-before, mul-operation, sign-operation, rel-operation}
 
 -- ---- answers
@@ -83,21 +83,21 @@ module _ {A B C : Type 0} {P : A → Type 0} {Q : B → Type 0} {R : C → Type 
 -- ---- what a walk promises, as such an answer
 
 abbrev pub Led : {k : Kind} → List ℕ → List ℕ → List ℤ → Walk → Sen Name k → List ℕ → List ℤ → Walk → Gives → Type 0
-Led text names table w x names′ table′ v g = Leads (Laid table table′ w v g) (stand text names′ v) (pass (stand text names w) (resolve (length names / 4) x))
+Led text names table w x names′ table′ v g = Leads (Laid table table′ w v g) (stand text names′ v) (pass (stand text names w) (resolve (room names) x))
 
 module _ {k : Kind} {text names names′ : List ℕ} {table table′ : List ℤ} {w v : Walk} {g : Gives} {x : Sen Name k} where
   pub leads : Lays text names table w x names′ table′ v g → Led text names table w x names′ table′ v g
-  leads p = by (pass (stand text names w) (resolve (length names / 4) x)) refl
+  leads p = by (pass (stand text names w) (resolve (room names) x)) refl
     where
-      by : (o : Answer (Known (Sen ℕ k))) → pass (stand text names w) (resolve (length names / 4) x) ≡ o → Led text names table w x names′ table′ v g
+      by : (o : Answer (Known (Sen ℕ k))) → pass (stand text names w) (resolve (room names) x) ≡ o → Led text names table w x names′ table′ v g
       by (given r) e = unfold pass scope-of named in gives r e (p .naming ∙ ap (λ o. pass o scope-of) e) (p .laying r e)
       by (refused why i) e = unfold pass named in refuses why i e (p .naming ∙ ap (λ o. pass o scope-of) e)
 
-  pub lays : Led text names table w x names′ table′ v g → Small k w v g → Fine names′ v → Kept (w .scope .visible) names names′ → Lays text names table w x names′ table′ v g
+  pub lays : Led text names table w x names′ table′ v g → Small k w v g → Sound names′ → Kept names names′ → Lays text names table w x names′ table′ v g
   unfolding named
-  lays f s e t = record { naming = by f; laying = given-has f; small = s; fine = e; kept = t }
+  lays f s e t = record { naming = by f; laying = given-has f; small = s; sound = e; kept = t }
     where
-      by : Led text names table w x names′ table′ v g → stand text names′ v ≡ pass (pass (stand text names w) (resolve (length names / 4) x)) scope-of
+      by : Led text names table w x names′ table′ v g → stand text names′ v ≡ pass (pass (stand text names w) (resolve (room names) x)) scope-of
       by (gives r e d p) = unfold pass scope-of in d ∙ sym (ap (λ o. pass o scope-of) e)
       by (refuses why i e d) = unfold pass in d ∙ sym (ap (λ o. pass o scope-of) e)
 
@@ -106,17 +106,13 @@ module _ {k : Kind} {text names names′ : List ℕ} {table table′ : List ℤ}
 module _ {k : Kind} {text names names′ : List ℕ} {table table′ : List ℤ} {w v : Walk} {g : Gives} {x : Sen Name k} (m : Lexeme) where
   pub lead : w .next .place ≤ m .place → Lays text names table (moved-to w m) x names′ table′ v g → Lays text names table w x names′ table′ v g
   unfolding moved-to stand
-  lead h p = record { naming = p .naming; laying = λ r e. let q = p .laying r e in record { code = q .code; need = q .need; numbers = q .numbers }; small = omega (arith, p .small); fine = p .fine; kept = p .kept }
+  lead h p = record { naming = p .naming; laying = λ r e. let q = p .laying r e in record { code = q .code; need = q .need; numbers = q .numbers }; small = omega (arith, p .small); sound = p .sound; kept = p .kept }
 
   pub trail : v .next .place ≤ m .place → Lays text names table w x names′ table′ v g → Lays text names table w x names′ table′ (moved-to v m) g
   unfolding moved-to stand
-  trail h p = record { naming = p .naming; laying = λ r e. let q = p .laying r e in record { code = q .code; need = q .need; numbers = q .numbers }; small = omega (arith, p .small); fine = record { sound = p .fine .sound; low = p .fine .low }; kept = p .kept }
+  trail h p = record { naming = p .naming; laying = λ r e. let q = p .laying r e in record { code = q .code; need = q .need; numbers = q .numbers }; small = omega (arith, p .small); sound = p .sound; kept = p .kept }
 
 -- ---- one instruction and no part
-
-pub fine-more : {names : List ℕ} {w : Walk} → Fine names w → Fine names (one-instruction w)
-unfolding one-instruction
-fine-more f = record { sound = f .sound; low = f .low }
 
 -- at most two instructions are spare
 few : (k : Kind) → spare k ≤ 2
@@ -134,23 +130,23 @@ quoted true q = print-line q
 quoted false q = print-string q
 
 module _ {text names : List ℕ} {table : List ℤ} {w : Walk} where
-  lays-alone : {k : Kind} (x : Sen Name k) (z : Sen ℕ k) (i : Instruction) (n : ℕ) → resolve (length names / 4) x ≡ give z → size z ≡ 1 → need z ≡ n → n ≤ 1 → code (w .code) z ≡ i ∷ [] →
-      (m : Lexeme) → w .next .place < m .place → Fine names w → Lays text names table w x names (put table (w .code) (pair i [])) (moved-to (one-instruction w) m) (record { need = n })
+  lays-alone : {k : Kind} (x : Sen Name k) (z : Sen ℕ k) (i : Instruction) (n : ℕ) → resolve (room names) x ≡ give z → size z ≡ 1 → need z ≡ n → n ≤ 1 → code (w .code) z ≡ i ∷ [] →
+      (m : Lexeme) → w .next .place < m .place → Sound names → Lays text names table w x names (put table (w .code) (pair i [])) (moved-to (one-instruction w) m) (record { need = n })
   unfolding moved-to one-instruction stand
-  lays-alone {k} x z i n e s d l c m h f = lays (rw e (leads-give z (stand text names w) written)) (omega (arith, few k)) (record { sound = f .sound; low = f .low }) (kept-all (w .scope .visible) names)
+  lays-alone {k} x z i n e s d l c m h f = lays (rw e (leads-give z (stand text names w) written)) (omega (arith, few k)) f (kept-all names)
     where
       written : Laid table (put table (w .code) (pair i [])) w (moved-to (one-instruction w) m) (record { need = n }) z
       written = record { code = ap (λ j. w .code + j) (sym s); need = sym d; numbers = sym (ap (emit table (w .code)) c ∙ emit-one table (w .code) i) }
 
-  pub lays-literal : (n : ℕ) (m : Lexeme) → w .next .place < m .place → Fine names w → Lays text names table w (literal n) names (put table (w .code) (pos 2 ∷ pos n ∷ [])) (moved-to (one-instruction w) m) (record { need = 1 })
+  pub lays-literal : (n : ℕ) (m : Lexeme) → w .next .place < m .place → Sound names → Lays text names table w (literal n) names (put table (w .code) (pos 2 ∷ pos n ∷ [])) (moved-to (one-instruction w) m) (record { need = 1 })
   unfolding resolve size need code pair
   lays-literal n = lays-alone (literal n) (literal n) (push-int (pos n)) 1 refl refl refl (le-refl 1) refl
 
-  pub lays-error : (m : Lexeme) → w .next .place < m .place → Fine names w → Lays text names table w error names (put table (w .code) (pos 1 ∷ pos 1 ∷ [])) (one-instruction (moved-to w m)) (record { need = 0 })
+  pub lays-error : (m : Lexeme) → w .next .place < m .place → Sound names → Lays text names table w error names (put table (w .code) (pos 1 ∷ pos 1 ∷ [])) (one-instruction (moved-to w m)) (record { need = 0 })
   unfolding moved-to one-instruction resolve size need code pair
   lays-error = lays-alone error error (halt 1) 0 refl refl refl (omega arith) refl
 
-  pub lays-quoted : (line : Bool) (q : Quoted) (m : Lexeme) → q .place ≡ w .next .place + 1 → w .next .place < m .place → Fine names w →
+  pub lays-quoted : (line : Bool) (q : Quoted) (m : Lexeme) → q .place ≡ w .next .place + 1 → w .next .place < m .place → Sound names →
       Lays text names table w (quoted line q) names (put table (w .code) (printing-number line ∷ pos (w .next .place + 1) ∷ [])) (moved-to (one-instruction w) m) (record { need = 0 })
   unfolding resolve size need code pair quoted printing-number
   lays-quoted true q m p = rw (← p) (lays-alone (print-line q) (print-line q) (print-str-ln (q .place)) 0 refl refl refl (omega arith) refl m)
@@ -168,10 +164,10 @@ laid-more {table} {table′} {w} {u} {v} {y} z i a s d c p = record {
   numbers = sym (ap (emit table (w .code)) c ∙ rw (← a) (emit-code table (u .code) y (i ∷ []) ∙ rw (← p .code, ← p .numbers) (emit-one table′ (v .code) i)));
 }
 
-module _ {k l : Kind} {text names names′ : List ℕ} {table table′ : List ℤ} {w v : Walk} {g : Gives} {x : Sen Name k} {z : Sen Name l} (make : Sen ℕ k → Sen ℕ l) (e : resolve (length names / 4) z ≡ (resolve (length names / 4) x >>= λ a. give (make a))) where
+module _ {k l : Kind} {text names names′ : List ℕ} {table table′ : List ℤ} {w v : Walk} {g : Gives} {x : Sen Name k} {z : Sen Name l} (make : Sen ℕ k → Sen ℕ l) (e : resolve (room names) z ≡ (resolve (room names) x >>= λ a. give (make a))) where
   -- with the code of its part
   lays-same : spare l ≤ spare k → ((y : Sen ℕ k) → size (make y) ≡ size y) → ((y : Sen ℕ k) → need (make y) ≡ need y) → ((a : ℕ) (y : Sen ℕ k) → code a (make y) ≡ code a y) → Lays text names table w x names′ table′ v g → Lays text names table w z names′ table′ v g
-  lays-same h s d c p = lays (rw e (leads-one make written (resolve (length names / 4) x) (stand text names w) (leads p))) (omega (arith, p .small)) (p .fine) (p .kept)
+  lays-same h s d c p = lays (rw e (leads-one make written (resolve (room names) x) (stand text names w) (leads p))) (omega (arith, p .small)) (p .sound) (p .kept)
     where
       written : (y : Sen ℕ k) → Laid table table′ w v g y → Laid table table′ w v g (make y)
       written y q = record { code = rw (s y) (q .code); need = rw (d y) (q .need); numbers = rw (c (w .code) y) (q .numbers) }
@@ -181,7 +177,7 @@ module _ {k l : Kind} {text names names′ : List ℕ} {table table′ : List �
       (m : Lexeme) → w .next .place ≤ m .place → 4 * w .next .place + 1 + spare l ≤ 4 * m .place + spare k → Lays text names table (moved-to w m) x names′ table′ v g → Lays text names table w z names′ (put table′ (v .code) (pair i [])) (one-instruction v) g
   unfolding moved-to one-instruction stand
   lays-more i s d c m h j p =
-      lays (rw e (leads-one make (λ y. laid-more (make y) i refl (s y) (d y) (c (w .code) y)) (resolve (length names / 4) x) (stand text names w) (leads p))) (omega (arith, p .small)) (record { sound = p .fine .sound; low = p .fine .low }) (p .kept)
+      lays (rw e (leads-one make (λ y. laid-more (make y) i refl (s y) (d y) (c (w .code) y)) (resolve (room names) x) (stand text names w) (leads p))) (omega (arith, p .small)) (p .sound) (p .kept)
 
 module _ {text names names′ : List ℕ} {table table′ : List ℤ} {w v : Walk} {g : Gives} where
   pub lays-bracket : {x : Sen Name expression} → Lays text names table w x names′ table′ v g → Lays text names table w (bracket x) names′ table′ v g
@@ -219,15 +215,15 @@ module _ {text names names′ : List ℕ} {table table′ : List ℤ} {w v : Wal
 -- ---- two parts
 
 module _ {k j l : Kind} {text names names₁ names₂ : List ℕ} {table table₁ table₂ table₃ : List ℤ} {w c u v₂ v : Walk} {g h d : Gives} {x : Sen Name k} {y : Sen Name j} {z : Sen Name l} where
-  lays-two : (make : Sen ℕ k → Sen ℕ j → Sen ℕ l) → resolve (length names / 4) z ≡ (resolve (length names / 4) x >>= λ a. resolve (length names / 4) y >>= λ b. give (make a b)) →
-      Lays text names table w x names₁ table₁ c g → Lays text names₁ table₁ u y names₂ table₂ v₂ h → stand text names₁ u ≡ stand text names₁ c → stand text names₂ v₂ ≡ stand text names₂ v → u .scope ≡ c .scope →
-      ((a : Sen ℕ k) (b : Sen ℕ j) → Laid table table₁ w c g a → Laid table₁ table₂ u v₂ h b → Laid table table₃ w v d (make a b)) → Small l w v d → Fine names₂ v → Lays text names table w z names₂ table₃ v d
-  lays-two make e p q a b i f s t =
-      lays (rw (e, ← b) (leads-two make f (resolve (length names / 4) x) (resolve (length names / 4) y) (stand text names w) (leads p) after)) s t
-      (kept-then (p .kept) (q .kept) (rw i (p .small .visible)))
+  lays-two : (make : Sen ℕ k → Sen ℕ j → Sen ℕ l) → resolve (room names) z ≡ (resolve (room names) x >>= λ a. resolve (room names) y >>= λ b. give (make a b)) →
+      Lays text names table w x names₁ table₁ c g → Lays text names₁ table₁ u y names₂ table₂ v₂ h → stand text names₁ u ≡ stand text names₁ c → stand text names₂ v₂ ≡ stand text names₂ v →
+      ((a : Sen ℕ k) (b : Sen ℕ j) → Laid table table₁ w c g a → Laid table₁ table₂ u v₂ h b → Laid table table₃ w v d (make a b)) → Small l w v d → Sound names₂ → Lays text names table w z names₂ table₃ v d
+  lays-two make e p q a b f s t =
+      lays (rw (e, ← b) (leads-two make f (resolve (room names) x) (resolve (room names) y) (stand text names w) (leads p) after)) s t
+      (kept-then (p .kept) (q .kept))
     where
-      after : Leads (Laid table₁ table₂ u v₂ h) (stand text names₂ v₂) (pass (stand text names₁ c) (resolve (length names / 4) y))
-      after = rw (← a, ← p .kept .count) (leads q)
+      after : Leads (Laid table₁ table₂ u v₂ h) (stand text names₂ v₂) (pass (stand text names₁ c) (resolve (room names) y))
+      after = rw (← a, ← p .kept .long) (leads q)
 
 -- the code of both parts, then an operation
 laid-joined : {k j l : Kind} {table table₁ table₂ : List ℤ} {w c v : Walk} {g h : Gives} {x : Sen ℕ k} {y : Sen ℕ j} (z : Sen ℕ l) (o : Two-sided) (n : ℤ) (m : Lexeme) → n ≡ number o →
@@ -246,19 +242,19 @@ module _ {text names names₁ names₂ : List ℕ} {table table₁ table₂ : Li
       Lays text names table w (multiply x o y) names₂ (put table₂ (v .code) (operation-number (number-of (mul o)) ∷ pos 0 ∷ [])) (one-instruction v) (record { need = max (g .need) (1 + h .need) })
   unfolding moved-to one-instruction stand resolve size need code spare
   lays-multiply o m i p q =
-      lays-two (λ a b. multiply a o b) refl p q refl refl refl (λ a b. laid-joined (multiply a o b) (of-mul o) (operation-number (number-of (mul o))) m (mul-operation o) refl refl refl) (omega (arith, p .small, q .small)) (fine-more (q .fine))
+      lays-two (λ a b. multiply a o b) refl p q refl refl (λ a b. laid-joined (multiply a o b) (of-mul o) (operation-number (number-of (mul o))) m (mul-operation o) refl refl refl) (omega (arith, p .small, q .small)) (q .sound)
 
   pub lays-add : {x : Sen Name expression} {y : Sen Name term} (o : Sign) (m : Lexeme) → left .next .place < m .place → Lays text names table w x names₁ table₁ left g → Lays text names₁ table₁ (moved-to left m) y names₂ table₂ v h →
       Lays text names table w (add x o y) names₂ (put table₂ (v .code) (operation-number (number-of (sign o)) ∷ pos 0 ∷ [])) (one-instruction v) (record { need = max (g .need) (1 + h .need) })
   unfolding moved-to one-instruction stand resolve size need code spare
   lays-add o m i p q =
-      lays-two (λ a b. add a o b) refl p q refl refl refl (λ a b. laid-joined (add a o b) (of-sign o) (operation-number (number-of (sign o))) m (sign-operation o) refl refl refl) (omega (arith, p .small, q .small)) (fine-more (q .fine))
+      lays-two (λ a b. add a o b) refl p q refl refl (λ a b. laid-joined (add a o b) (of-sign o) (operation-number (number-of (sign o))) m (sign-operation o) refl refl refl) (omega (arith, p .small, q .small)) (q .sound)
 
   pub lays-compare : {x y : Sen Name expression} (o : Rel) (m : Lexeme) → left .next .place < m .place → Lays text names table w x names₁ table₁ left g → Lays text names₁ table₁ (moved-to left m) y names₂ table₂ v h →
       Lays text names table w (compare x o y) names₂ (put table₂ (v .code) (operation-number (number-of (rel o)) ∷ pos 0 ∷ [])) (one-instruction v) (record { need = max (g .need) (1 + h .need) })
   unfolding moved-to one-instruction stand resolve size need code spare
   lays-compare o m i p q =
-      lays-two (λ a b. compare a o b) refl p q refl refl refl (λ a b. laid-joined (compare a o b) (of-rel o) (operation-number (number-of (rel o))) m (rel-operation o) refl refl refl) (omega (arith, p .small, q .small)) (fine-more (q .fine))
+      lays-two (λ a b. compare a o b) refl p q refl refl (λ a b. laid-joined (compare a o b) (of-rel o) (operation-number (number-of (rel o))) m (rel-operation o) refl refl refl) (omega (arith, p .small, q .small)) (q .sound)
 
 -- ---- bodies
 
@@ -295,12 +291,12 @@ module _ {text names names₁ names₂ : List ℕ} {table table₁ table₂ : Li
   pub lays-guarded : (again : Bool) {x : Sen Name condition} (m : Lexeme) → c .next .place < m .place → Lays text names table w x names₁ table₁ c g → Lays text names₁ table₁ (one-instruction (moved-to c m)) y names₂ table₂ v h →
       Lays text names table w (guarded again x y) names₂ (put (ended-table again table₂ (v .code) (w .code)) (c .code) (pos 6 ∷ pos (ended-walk again v .code) ∷ [])) (ended-walk again v) (record { need = max (g .need) (h .need) })
   unfolding moved-to one-instruction ended-walk ended-table guarded stand resolve spare
-  lays-guarded true m i p q = lays-two while refl p q refl refl refl (λ a b f e. laid-guarded {x = a} {y = b} m f e true) (omega (arith, p .small, q .small)) (fine-more (q .fine))
-  lays-guarded false m i p q = lays-two when refl p q refl refl refl (λ a b f e. laid-guarded {x = a} {y = b} m f e false) (omega (arith, p .small, q .small)) (q .fine)
+  lays-guarded true m i p q = lays-two while refl p q refl refl (λ a b f e. laid-guarded {x = a} {y = b} m f e true) (omega (arith, p .small, q .small)) (q .sound)
+  lays-guarded false m i p q = lays-two when refl p q refl refl (λ a b f e. laid-guarded {x = a} {y = b} m f e false) (omega (arith, p .small, q .small)) (q .sound)
 
   pub lays-then : {x : Sen Name commands} → Lays text names table w x names₁ table₁ c g → Lays text names₁ table₁ c y names₂ table₂ v h → Lays text names table w (then x y) names₂ table₂ v (record { need = max (g .need) (h .need) })
   unfolding stand resolve spare
-  lays-then p q = lays-two then refl p q refl refl refl (λ a b. laid-then {x = a} {y = b}) (omega (arith, p .small, q .small)) (q .fine)
+  lays-then p q = lays-two then refl p q refl refl (λ a b. laid-then {x = a} {y = b}) (omega (arith, p .small, q .small)) (q .sound)
 
 -- ---- what the next reader may be called with
 
@@ -308,7 +304,7 @@ module _ {text names : List ℕ} {w : Walk} {allow : ℕ} (r : Ready text names 
   -- before the lexeme m, with no more nestings allowed
   pub ready-moved : (m : Lexeme) (fewer : ℕ) → fewer ≤ allow → w .next .place ≤ m .place → Stands text m → Ready text names (moved-to w m) fewer
   unfolding moved-to
-  ready-moved m fewer f h s = record { stands = s; short = r .short; code = omega (arith, r .code); fine = record { sound = r .fine .sound; low = r .fine .low }; allowed = omega (arith, r .allowed) }
+  ready-moved m fewer f h s = record { stands = s; short = r .short; code = omega (arith, r .code); sound = r .sound; allowed = omega (arith, r .allowed) }
 
   module _ {names′ : List ℕ} {table table′ : List ℤ} {v : Walk} {g : Gives} {k : Kind} {x : Sen Name k} (p : Lays text names table w x names′ table′ v g) where
     -- the counts are in the range of the code's numbers
@@ -317,9 +313,9 @@ module _ {text names : List ℕ} {w : Walk} {allow : ℕ} (r : Ready text names 
 
     -- after a construct
     pub ready-after : Stands text (v .next) → Ready text names′ v allow
-    ready-after s = record { stands = s; short = r .short; code = omega (arith, r .code, p .small); fine = p .fine; allowed = omega (arith, r .allowed, p .small) }
+    ready-after s = record { stands = s; short = r .short; code = omega (arith, r .code, p .small); sound = p .sound; allowed = omega (arith, r .allowed, p .kept .blocks) }
 
     -- and after the lexeme before m, with a place left free for a jump
     pub ready-body : (m : Lexeme) → v .next .place < m .place → Stands text m → Ready text names′ (one-instruction (moved-to v m)) allow
     unfolding moved-to one-instruction
-    ready-body m h s = record { stands = s; short = r .short; code = omega (arith, r .code, p .small); fine = record { sound = p .fine .sound; low = p .fine .low }; allowed = omega (arith, r .allowed, p .small) }
+    ready-body m h s = record { stands = s; short = r .short; code = omega (arith, r .code, p .small); sound = p .sound; allowed = omega (arith, r .allowed, p .kept .blocks) }

@@ -40,11 +40,11 @@ Measured nesting declarations instructions text r =
     (sizes : Sizes) (ls : List Placed) → sizes .literal ≤ 2147483647 → lexemes sizes text ≡ given ls → r ≡ answered (measured nesting declarations instructions ls)
 
 -- what a whole Program's walk comes to: the leftmost refusal of a name, too much code, or the counts
-unfoldable pub settled-by : ℕ → Walk → Gives → Fault → Answer
-settled-by limit w g fault.Nothing =
-    cond (ltb limit (w .scope .cells + w .code + 1)) (Refused TooMuchCode 0)
-    (Accepted (record { instructions = w .scope .cells + w .code + 1; cells = w .scope .cells; need = w .scope .cells + g .need }))
-settled-by limit w g (fault.Is why p) = Refused why p
+unfoldable pub settled-by : ℕ → ℕ → Walk → Gives → Fault → Answer
+settled-by limit cells w g fault.Nothing =
+    cond (ltb limit (cells + w .code + 1)) (Refused TooMuchCode 0)
+    (Accepted (record { instructions = cells + w .code + 1; cells = cells; need = cells + g .need }))
+settled-by limit cells w g (fault.Is why p) = Refused why p
 
 -- the code of a text that has these cells, written over a table
 unfoldable pub Written : ℕ → ℕ → List ℕ → ℕ → List ℤ → List ℤ → Type 0

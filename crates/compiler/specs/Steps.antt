@@ -1,7 +1,7 @@
 -- What the code's small steps come to: how a walk moves over lexemes, instructions and names.
 use mathlib.Core.Path.{_≡_}
 use mathlib.Core.List.{List, [], _∷_}
-use mathlib.Core.Bool.{Bool, true, false, cond}
+use mathlib.Core.Bool.{Bool, true, false, cond, _||_}
 use mathlib.Core.Logic.{_⊎_}
 use Prim.Native.Nat.{ℕ, _+_, _≤_}
 use Prim.Native.Char.{code}
@@ -11,18 +11,15 @@ use Rattle.base.specs.declared.Refusal.{Refusal}
 use Rattle.base.specs.declared.Refusal.the-variants.{NoLexeme, NoProgram, Undeclared, TooManyDeclared}
 use Rattle.base.specs.Bytes.{part}
 use Rattle.lexeme.specs.Lexemes as L
-use Rattle.lexeme.specs.Lexemes.{DO, THEN, end, next}
+use Rattle.lexeme.specs.Lexemes.{DO, IF, THEN, WHILE, open-brace, end, next}
 use Rattle.lexeme.specs.Coded.{code-of, coded, fixed-number, Stands}
 use Rattle.lexeme.specs.declared.Kind.the-variants as kind
 use Rattle.lexeme.specs.declared.Lexeme.{Lexeme}
 use Rattle.lexeme.specs.declared.Found.{Found}
 use Rattle.lexeme.specs.declared.Found.the-variants as reply
-use Rattle.names.specs.declared.Scope.{Scope}
 use Rattle.names.specs.declared.Cell.{Cell}
 use Rattle.names.specs.declared.Cell.the-variants.{At, Nowhere}
-use Rattle.names.specs.declared.Declared.{Declared}
-use Rattle.names.specs.declared.Declared.the-variants as declared
-use Rattle.names.specs.Held.{visible-in, latest, Declares, opened-scope, closed-scope}
+use Rattle.names.specs.Held.{counts, room, visible-in, latest}
 use Rattle.instruction.specs.Numbers.{plus, minus, times, divide, equals, smaller, greater}
 use Rattle.instruction.specs.Instructions.{number}
 use Rattle.compiler.specs.declared.walk.Walk.{Walk}
@@ -35,16 +32,13 @@ use Rattle.compiler.specs.Tables.{put}
 -- ---- the walk
 
 abbrev pub start-at : ℕ → Walk
-start-at place = record { next = record { kind = kind.Fixed (code-of end); place = 0; end = 0 }; code = place; scope = record { visible = 0; declared = 0; «next_cell» = 0; cells = 0; blocks = 0 }; fault = Nothing }
+start-at place = record { next = record { kind = kind.Fixed (code-of end); place = 0; end = 0 }; code = place; fault = Nothing }
 
 unfoldable pub moved-to : Walk → Lexeme → Walk
-moved-to w l = record { next = l; code = w .code; scope = w .scope; fault = w .fault }
+moved-to w l = record { next = l; code = w .code; fault = w .fault }
 
 unfoldable pub one-instruction : Walk → Walk
-one-instruction w = record { next = w .next; code = w .code + 1; scope = w .scope; fault = w .fault }
-
-unfoldable pub in-scope : Walk → Scope → Walk
-in-scope w s = record { next = w .next; code = w .code; scope = s; fault = w .fault }
+one-instruction w = record { next = w .next; code = w .code + 1; fault = w .fault }
 
 -- the leftmost refusal stays
 unfoldable pub first-fault : Fault → Refusal → ℕ → Fault
@@ -52,7 +46,7 @@ first-fault Nothing why p = Is why p
 first-fault (Is why′ q) why p = Is why′ q
 
 unfoldable pub faulted-walk : Walk → Refusal → ℕ → Walk
-faulted-walk w why p = record { next = w .next; code = w .code; scope = w .scope; fault = first-fault (w .fault) why p }
+faulted-walk w why p = record { next = w .next; code = w .code; fault = first-fault (w .fault) why p }
 
 -- ---- the lexeme ahead
 
@@ -92,7 +86,11 @@ unfoldable pub printing-number : Bool → ℤ
 printing-number true = pos 19
 printing-number false = pos 18
 
--- ---- around the body of an IF, or of a WHILE, which jumps back
+-- ---- the body of an IF or of a WHILE, which jumps back, or of a block
+
+-- a command that begins with the fixed lexeme of this number has one
+unfoldable pub has-body : ℕ → Bool
+has-body n = eqb n (code-of IF) || (eqb n (code-of WHILE) || eqb n (code-of open-brace))
 
 unfoldable pub before-body : Bool → L.Fixed
 before-body true = DO
@@ -119,9 +117,9 @@ operation-number b =
 
 -- ---- names
 
--- the cell of the name l, in the scope of the walk
-unfoldable pub cell-of : List ℕ → List ℕ → Walk → Lexeme → Cell
-cell-of text names w l = latest (visible-in text names (w .scope .visible)) (part text (l .place) (l .end))
+-- the cell of the name l
+unfoldable pub cell-of : List ℕ → List ℕ → Lexeme → Cell
+cell-of text names l = latest (visible-in text names (counts names .visible)) (part text (l .place) (l .end))
 
 unfoldable pub noted-walk : Cell → Walk → ℕ → Walk
 noted-walk (At k) w p = w
@@ -131,16 +129,6 @@ unfoldable pub cell-number : Cell → ℕ
 cell-number (At k) = operand-of k
 cell-number Nowhere = 0
 
-unfoldable pub declared-walk : Declared → Walk → Walk
-declared-walk (declared.Is s) w = in-scope w s
-declared-walk declared.TooMany w = faulted-walk w TooManyDeclared (w .next .place)
-
--- the name ahead declared in the scope of the walk
-unfoldable pub Declares-ahead : List ℕ → Walk → Walk → List ℕ → Type 0
-Declares-ahead names w r names′ = (d : Declared) × Declares names (w .scope) (w .next .place) (w .next .end) d names′ × (r ≡ declared-walk d w)
-
-unfoldable pub opened-walk : Walk → Walk
-opened-walk w = in-scope w (opened-scope (w .scope))
-
-unfoldable pub closed-walk : Walk → Walk → Walk
-closed-walk before w = in-scope w (closed-scope (before .scope) (w .scope))
+-- the name ahead was declared, or there were too many
+unfoldable pub declared-walk : List ℕ → Walk → Walk
+declared-walk names w = cond (ltb (counts names .declared) (room names)) w (faulted-walk w TooManyDeclared (w .next .place))

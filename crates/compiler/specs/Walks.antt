@@ -5,20 +5,20 @@ use mathlib.Core.Bool.{Bool, true, false, cond}
 use Prim.Native.Nat.{ℕ, suc, _+_, _*_, _/_, _≤_, _<_}
 use lib.Dec.{ltb, eqb}
 use lib.IntN.{ℤ}
-use lib.ListN.{length}
+use lib.ListN.{length, getD}
 use Rattle.base.specs.declared.Refusal.{Refusal}
 use Rattle.base.specs.declared.Refusal.the-variants.{NoProgram, TooDeep}
 use Rattle.base.specs.Bytes.{part}
 use Rattle.base.specs.Answers.{Answer, given, refused, pass}
 use Rattle.lexeme.specs.Lexemes as L
-use Rattle.lexeme.specs.Lexemes.{Name, Placed, next}
-use Rattle.lexeme.specs.Coded.{coded, Stands, Ahead}
+use Rattle.lexeme.specs.Lexemes.{Name, Placed, WHILE, open-brace, next}
+use Rattle.lexeme.specs.Coded.{code-of, coded, Stands, Ahead}
 use Rattle.lexeme.specs.declared.Lexeme.{Lexeme}
 use Rattle.lexeme.specs.declared.Found.the-variants as reply
 use Rattle.sentence.specs.Sentences.{Kind, Sen, factor, term, expression, condition, command, commands}
 use Rattle.sentence.specs.Reader.{Around, depth, State, in-first, in-left, in-print, in-while, in-when, in-block, want-factor, want-expression, want-condition, want-command, want-line, want-string, want-declared, want-read, want-becomes, step, verdict, goes-on, is-whole, begins-none, whole, read-from, read, got-factor, whole-term, after-expression, whole-expression, after-condition, after-command}
 use Rattle.names.specs.Names.{Scope, Known, resolve}
-use Rattle.names.specs.Held.{scope-in, Sound, Low, Kept}
+use Rattle.names.specs.Held.{counts, room, scope-in, Sound, Kept}
 use Rattle.meaning.specs.Layout as layout
 use Rattle.compiler.specs.declared.walk.Walk.{Walk}
 use Rattle.compiler.specs.declared.walk.Gives.{Gives}
@@ -26,7 +26,7 @@ use Rattle.compiler.specs.declared.walk.Fault.{Fault}
 use Rattle.compiler.specs.declared.walk.Fault.the-variants.{Nothing, Is}
 use Rattle.compiler.specs.declared.walk.Read.{Read}
 use Rattle.compiler.specs.declared.walk.Read.the-variants.{Done, Refused}
-use Rattle.compiler.specs.Steps.{start-at}
+use Rattle.compiler.specs.Steps.{start-at, Past}
 use Rattle.compiler.specs.Tables.{emit}
 
 -- ---- reading
@@ -57,7 +57,7 @@ standing Nothing s = given s
 standing (Is why p) s = refused why p
 
 unfoldable pub stand : List ℕ → List ℕ → Walk → Answer Scope
-stand text names w = standing (w .fault) (scope-in text names (w .scope))
+stand text names w = standing (w .fault) (scope-in text names)
 
 unfoldable pub named : {k : Kind} → ℕ → Sen Name k → Answer Scope → Answer (Known (Sen ℕ k))
 named limit x a = pass a (resolve limit x)
@@ -83,22 +83,14 @@ spare commands = 1
 pub record Small (k : Kind) (w v : Walk) (g : Gives) : Type 0 where
   pub code : v .code + 4 * w .next .place + spare k ≤ w .code + 4 * v .next .place
   pub need : g .need + w .next .place ≤ v .next .place
-  pub declared : w .scope .declared ≤ v .scope .declared
-  pub visible : w .scope .visible ≤ v .scope .visible
-  pub blocks : v .scope .blocks ≡ w .scope .blocks
-
--- the lent list of declarations is sound
-pub record Fine (names : List ℕ) (w : Walk) : Type 0 where
-  pub sound : Sound names (w .scope)
-  pub low : Low names (w .scope)
 
 -- the names of the sentence x were resolved, and its code written, by the walk from w to v
 pub record Lays {k : Kind} (text names : List ℕ) (table : List ℤ) (w : Walk) (x : Sen Name k) (names′ : List ℕ) (table′ : List ℤ) (v : Walk) (g : Gives) : Type 0 where
-  pub naming : stand text names′ v ≡ pass (named (length names / 4) x (stand text names w)) scope-of
-  pub laying : (r : Known (Sen ℕ k)) → named (length names / 4) x (stand text names w) ≡ given r → Laid table table′ w v g (r .what)
+  pub naming : stand text names′ v ≡ pass (named (room names) x (stand text names w)) scope-of
+  pub laying : (r : Known (Sen ℕ k)) → named (room names) x (stand text names w) ≡ given r → Laid table table′ w v g (r .what)
   pub small : Small k w v g
-  pub fine : Fine names′ v
-  pub kept : Kept (w .scope .visible) names names′
+  pub sound : Sound names′
+  pub kept : Kept names names′
 
 -- ---- what a reader may be called with, and what it answers
 
@@ -106,8 +98,13 @@ pub record Ready (text names : List ℕ) (w : Walk) (allow : ℕ) : Type 0 where
   pub stands : Stands text (w .next)
   pub short : length text ≤ 1000000
   pub code : w .code ≤ 1000000 + 4 * w .next .place
-  pub fine : Fine names w
-  pub allowed : allow + w .scope .blocks ≤ 1000000
+  pub sound : Sound names
+  pub allowed : allow + counts names .blocks ≤ 1000000
+
+-- the walk x is past the first lexeme of a command, before which a reader may be called
+pub record First (text names : List ℕ) (w : Walk) (allow : ℕ) (x : Walk) : Type 0 where
+  pub ready : Ready text names w allow
+  pub past : Past text w x
 
 -- a construct of the kind k was read, or refused
 unfoldable pub Reads : (k : Kind) → (Around k → State) → (Sen Name k → Around k → L.Lexeme → State) → List ℕ → List ℕ → List ℤ → Walk → ℕ → Read → List ℕ → List ℤ → Type 0
@@ -177,7 +174,7 @@ Reads-block = λ text names table w allow. Reads command (λ a. want-command (in
 
 -- after IF, WHILE or `{`, by its number
 unfoldable pub want-nested : ℕ → Around command → State
-want-nested f = cond (eqb f 123) (λ a. want-command (in-block a)) (want-guarded (eqb f 21))
+want-nested f = cond (eqb f (code-of open-brace)) (λ a. want-command (in-block a)) (want-guarded (eqb f (code-of WHILE)))
 
 abbrev pub Reads-nested : ℕ → Reading
 Reads-nested f = λ text names table w allow. Reads command (want-nested f) after-command text names table w (suc allow)
@@ -187,12 +184,14 @@ Reads-nested f = λ text names table w allow. Reads command (want-nested f) afte
 pub record Set-out (text names : List ℕ) (from : ℕ) : Type 0 where
   pub short : length text ≤ 1000000
   pub code : from ≤ 1000000
-  pub room : length names ≤ 1000000
+  pub head : 5 ≤ length names
+  pub size : length names ≤ 1000000
+  pub zeros : (i : ℕ) → getD names i 0 ≡ 0
 
 -- its counts are in the range of the code's numbers
-pub record Counted (w : Walk) (g : Gives) : Type 0 where
+pub record Counted (cells : ℕ) (w : Walk) (g : Gives) : Type 0 where
+  pub few : cells ≤ 1000000
   pub code : w .code ≤ 10000000
-  pub cells : w .scope .cells ≤ 1000000
   pub need : g .need ≤ 1000000
 
 -- the lexemes of a text, as the readers come to them

@@ -1,9 +1,10 @@
 // Commands: one walk reads and translates. Only bodies and blocks recurse; the commands of a block are a loop.
 ghost use mathlib.Core.Path.{_≡_};
+ghost use mathlib.Core.Bool.{false};
 ghost use Prim.Native.Nat.{suc, _<_};
-ghost use Rattle.lexeme.specs.Coded.{code-of};
-ghost use Rattle.compiler.specs.Steps.{printing-number, before-body, ended-walk, ended-table};
-ghost use Rattle.compiler.specs.Walks.{Ready, Reads-command, Reads-print, Reads-string, Reads-declare, Reads-read, Reads-assign, Reads-nested, Reads-guarded, Reads-block};
+ghost use Rattle.lexeme.specs.Coded.{code-of, fixed-number};
+ghost use Rattle.compiler.specs.Steps.{moved-to, printing-number, has-body, before-body, ended-walk, ended-table};
+ghost use Rattle.compiler.specs.Walks.{Ready, First, Reads-command, Reads-print, Reads-string, Reads-declare, Reads-read, Reads-assign, Reads-nested, Reads-guarded, Reads-block};
 use crate::expression;
 use crate::naming;
 use crate::walk;
@@ -72,9 +73,9 @@ fn declare(allow: usize, text: &[u8], names: &mut [usize], table: &mut [i32], w:
     let Kind::Name = kind else {
         return Read::Refused(Refusal::NoProgram, l.place);
     };
-    let scope = w.scope;
+    let s = names::counts(names);
     let x = walk::emitted(table, w, operations::PUSH_INT, 0);
-    let y = walk::emitted(table, x, operations::STORE_STACK, scope.next_cell as i32);
+    let y = walk::emitted(table, x, operations::STORE_STACK, s.next_cell as i32);
     walk::advance(text, naming::declared(names, y), 1)
 }
 
@@ -101,7 +102,7 @@ fn assign(allow: usize, text: &[u8], names: &[usize], table: &mut [i32], w: Walk
     requires { ⌜ Ready (now text) (now names) w allow ⌝ }
     ensures { λ r. ⌜ Reads-assign l (now (text .entry)) (now (names .entry)) (now (table .entry)) w allow r (now (names .entry)) (now (table .exit)) ⌝ }
 {
-    let c = naming::look_up(text, names, w, l);
+    let c = naming::look_up(text, names, l);
     let a = walk::expect(text, naming::noted(w, c, l), b':', 0);
     let Read::Done(x, _) = a else {
         return a;
@@ -138,38 +139,65 @@ fn ended(table: &mut [i32], w: Walk, again: bool, back: usize) -> Walk
 
 // ---- commands
 
+// A command without a body, after its first lexeme l; nothing else begins a command.
+fn without_body(
+    allow: usize,
+    text: &[u8],
+    names: &mut [usize],
+    table: &mut [i32],
+    w: Walk,
+    l: Lexeme,
+) -> Read
+    requires { ⌜ First (now text) (now names) (moved-to w l) allow w ⌝ }
+    requires { ⌜ has-body (fixed-number (l .kind)) ≡ false ⌝ }
+    ensures { λ r. ⌜ Reads-command (now (text .entry)) (now (names .entry)) (now (table .entry)) (moved-to w l) allow r (now (names .exit)) (now (table .exit)) ⌝ }
+{
+    let kind = l.kind;
+    if let Kind::Name = kind {
+        return assign(allow, text, names, table, w, l);
+    }
+    let f = lexeme::fixed_of(kind);
+    match f {
+        fixed::ERROR => Read::Done(
+            walk::emitted(table, w, operations::HALT, 1),
+            Gives { need: 0 },
+        ),
+        fixed::INT => declare(allow, text, names, table, w),
+        fixed::PRINTI => print_int(allow, text, names, table, w),
+        fixed::PRINTLNS => print_string(allow, text, names, table, w, true),
+        fixed::PRINTS => print_string(allow, text, names, table, w, false),
+        fixed::READ => read(allow, text, names, table, w),
+        _ => Read::Refused(Refusal::NoProgram, l.place),
+    }
+}
+
+// Whether a command that begins so has a body.
+fn has_body(f: u8) -> bool
+    ensures { λ r. ⌜ r ≡ has-body f ⌝ }
+{
+    match f {
+        fixed::IF | fixed::WHILE | b'{' => true,
+        _ => false,
+    }
+}
+
 pub fn command(allow: usize, text: &[u8], names: &mut [usize], table: &mut [i32], w: Walk) -> Read
     requires { ⌜ Ready (now text) (now names) w allow ⌝ }
     ensures { λ r. ⌜ Reads-command (now (text .entry)) (now (names .entry)) (now (table .entry)) w allow r (now (names .exit)) (now (table .exit)) ⌝ }
 {
     let l = w.next;
-    let kind = l.kind;
+    let f = walk::fixed_ahead(w);
     let a = walk::advance(text, w, 0);
     let Read::Done(x, _) = a else {
         return a;
     };
-    if let Kind::Name = kind {
-        return assign(allow, text, names, table, x, l);
+    if !has_body(f) {
+        return without_body(allow, text, names, table, x, l);
     }
-    let f = lexeme::fixed_of(kind);
-    match f {
-        fixed::ERROR => Read::Done(
-            walk::emitted(table, x, operations::HALT, 1),
-            Gives { need: 0 },
-        ),
-        fixed::INT => declare(allow, text, names, table, x),
-        fixed::PRINTI => print_int(allow, text, names, table, x),
-        fixed::PRINTLNS => print_string(allow, text, names, table, x, true),
-        fixed::PRINTS => print_string(allow, text, names, table, x, false),
-        fixed::READ => read(allow, text, names, table, x),
-        fixed::IF | fixed::WHILE | b'{' => {
-            if allow == 0 {
-                return Read::Refused(Refusal::TooDeep, l.place);
-            }
-            nested(allow - 1, text, names, table, x, f)
-        }
-        _ => Read::Refused(Refusal::NoProgram, l.place),
+    if allow == 0 {
+        return Read::Refused(Refusal::TooDeep, l.place);
     }
+    nested(allow - 1, text, names, table, x, f)
 }
 
 // After IF, WHILE or `{`, with so many nestings allowed inside.
@@ -222,7 +250,9 @@ fn block(allow: usize, text: &[u8], names: &mut [usize], table: &mut [i32], w: W
     requires { ⌜ Ready (now text) (now names) w (suc allow) ⌝ }
     ensures { λ r. ⌜ Reads-block (now (text .entry)) (now (names .entry)) (now (table .entry)) w allow r (now (names .exit)) (now (table .exit)) ⌝ }
 {
-    let first = command(allow, text, names, table, naming::opened(w));
+    let before = names::counts(names);
+    names::open(names);
+    let first = command(allow, text, names, table, w);
     let Read::Done(x, g) = first else {
         return first;
     };
@@ -230,7 +260,8 @@ fn block(allow: usize, text: &[u8], names: &mut [usize], table: &mut [i32], w: W
     let mut need = g.need;
     loop {
         if walk::fixed_ahead(done) == b'}' {
-            return walk::advance(text, naming::closed(w, done), need);
+            names::close(names, before);
+            return walk::advance(text, done, need);
         }
         let r = command(allow, text, names, table, done);
         let Read::Done(y, h) = r else {

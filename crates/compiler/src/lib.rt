@@ -61,27 +61,26 @@ fn program(text: &[u8], names: &mut [usize], table: &mut [i32], code: usize) -> 
     r
 }
 
-// Numbers that the declarations take.
-const NAMES: usize = Limits::DECLARATIONS * names::ENTRY;
+// Numbers that a text's scope takes.
+const NAMES: usize = names::COUNTS + Limits::DECLARATIONS * names::ENTRY;
 
 // What a whole Program comes to: a name's refusal, too much code, or its counts.
-fn settled(w: Walk, g: Gives) -> Answer
-    requires { ⌜ Counted w g ⌝ }
-    ensures { λ r. do ⌜ r ≡ settled-by (← ⟦Limits::INSTRUCTIONS⟧ .entry) w g (w .fault) ⌝ }
+fn settled(cells: usize, w: Walk, g: Gives) -> Answer
+    requires { ⌜ Counted cells w g ⌝ }
+    ensures { λ r. do ⌜ r ≡ settled-by (← ⟦Limits::INSTRUCTIONS⟧ .entry) cells w g (w .fault) ⌝ }
 {
     let fault = w.fault;
     if let Fault::Is(why, place) = fault {
         return Answer::Refused(why, place);
     }
-    let scope = w.scope;
-    let size = scope.cells + w.code + 1;
+    let size = cells + w.code + 1;
     if Limits::INSTRUCTIONS < size {
         return Answer::Refused(Refusal::TooMuchCode, 0);
     }
     Answer::Accepted(Counts {
         instructions: size,
-        cells: scope.cells,
-        need: scope.cells + g.need,
+        cells: cells,
+        need: cells + g.need,
     })
 }
 
@@ -95,7 +94,10 @@ fn measured(text: &[u8]) -> Answer
     let r = program(text, &mut names, &mut none, 0);
     match r {
         Read::Refused(why, place) => Answer::Refused(why, place),
-        Read::Done(w, g) => settled(w, g),
+        Read::Done(w, g) => {
+            let s = names::counts(&names);
+            settled(s.cells, w, g)
+        }
     }
 }
 

@@ -6,13 +6,12 @@ ghost use lib.IntN.{pos};
 ghost use lib.ListN.{length};
 ghost use Rattle.lexeme.specs.Coded.{fixed-number};
 ghost use Rattle.compiler.specs.Tables.{put};
-ghost use Rattle.compiler.specs.Steps.{start-at, one-instruction, moved-to, in-scope, faulted-walk, passed-on, operand-of, Advances, Expects};
+ghost use Rattle.compiler.specs.Steps.{start-at, one-instruction, moved-to, faulted-walk, passed-on, operand-of, Advances, Expects};
 use base::Refusal;
 use lexeme::Found;
 use lexeme::Kind;
 use lexeme::Lexeme;
 use lexeme::fixed;
-use names::Scope;
 
 // The leftmost refusal of 6 and 7 so far.
 pub enum Fault {
@@ -26,8 +25,6 @@ pub struct Walk {
     pub next: Lexeme,
     // The place of the next instruction.
     pub code: usize,
-    // What is declared so far.
-    pub scope: Scope,
     pub fault: Fault,
 }
 
@@ -70,12 +67,10 @@ pub fn skipped(w: Walk) -> Walk
     ensures { λ r. ⌜ r ≡ one-instruction w ⌝ }
 {
     let next = w.next;
-    let scope = w.scope;
     let fault = w.fault;
     Walk {
         next: next,
         code: w.code + 1,
-        scope: scope,
         fault: fault,
     }
 }
@@ -89,22 +84,6 @@ pub fn emitted(table: &mut [i32], w: Walk, operation: i32, operand: i32) -> Walk
     skipped(w)
 }
 
-// ---- the scope
-
-// The walk with another scope.
-pub fn scoped(w: Walk, scope: Scope) -> Walk
-    ensures { λ r. ⌜ r ≡ in-scope w scope ⌝ }
-{
-    let next = w.next;
-    let fault = w.fault;
-    Walk {
-        next: next,
-        code: w.code,
-        scope: scope,
-        fault: fault,
-    }
-}
-
 // The walk with a name's refusal, unless it had one.
 pub fn faulted(w: Walk, why: Refusal, place: usize) -> Walk
     ensures { λ r. ⌜ r ≡ faulted-walk w why place ⌝ }
@@ -114,11 +93,9 @@ pub fn faulted(w: Walk, why: Refusal, place: usize) -> Walk
         return w;
     }
     let next = w.next;
-    let scope = w.scope;
     Walk {
         next: next,
         code: w.code,
-        scope: scope,
         fault: Fault::Is(why, place),
     }
 }
@@ -144,13 +121,6 @@ pub fn start(code: usize) -> Walk
             end: 0,
         },
         code: code,
-        scope: Scope {
-            visible: 0,
-            declared: 0,
-            next_cell: 0,
-            cells: 0,
-            blocks: 0,
-        },
         fault: Fault::Nothing,
     }
 }
@@ -177,12 +147,10 @@ fn refused(found: Found) -> Read
 fn moved(w: Walk, l: Lexeme) -> Walk
     ensures { λ r. ⌜ r ≡ moved-to w l ⌝ }
 {
-    let scope = w.scope;
     let fault = w.fault;
     Walk {
         next: l,
         code: w.code,
-        scope: scope,
         fault: fault,
     }
 }

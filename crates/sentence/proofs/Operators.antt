@@ -35,7 +35,7 @@ pub numbered : (w : Fixed) (l : Lexeme) → number-of l ≡ code-of w → l ≡ 
 numbered w l e = is-fixed w l (is-number w l ∙ eq-eqb (number-of l) (code-of w) e)
 
 -- what a number that is one of several says, and one that is none of them
-either : (n k : ℕ) (b : Bool) → (eqb n k || b) ≡ true → (n ≡ k) ⊎ (b ≡ true)
+pub either : (n k : ℕ) (b : Bool) → (eqb n k || b) ≡ true → (n ≡ k) ⊎ (b ≡ true)
 either n k b h = go (eqb n k) refl h
   where
     go : (a : Bool) → eqb n k ≡ a → (a || b) ≡ true → (n ≡ k) ⊎ (b ≡ true)

@@ -1,18 +1,22 @@
 -- `compiler::measured` meets its contract. Assumes nothing.
 use native.Mathlib.Omega.{arith}
 use Rattle.compiler.proofs.Decides.{counted, by-reading, by-naming}
+use Rattle.compiler.proofs.Programs.{nothing-yet}
 use borrow.Author.Needs.{needs}
 use Rattle.compiler.proofs.measured.Statement.{statement}
 use Rattle.compiler.proofs.measured.Tie as tie
 
+program-requires : tie.Need-program-requires
+program-requires c κs = record { short = omega (arith, c .before .before .before .pre); code = omega arith; head = search needs; size = search needs; zeros = nothing-yet }
+
 settled-requires : tie.Need-settled-requires
-settled-requires c κs = counted _ _ _ _ _ _ _ (c .before .before .before .before .before .program .ensures) (c .before .r2 .given .1) (record { short = omega (arith, c .before .before .before .before .before .before .before .before .before .pre); code = omega arith; room = search needs })
+settled-requires c κs = rw (c .counts .ensures) (counted _ _ _ _ _ (program-requires (c .before .before .before .before .before .before .before .before) (c .before .before .before .before .before .before .before .program .lifetimes)) _ _ (c .before .before .before .before .before .before .before .program .ensures) (c .before .before .before .r2 .given .1))
 
 returns : tie.Need-returns
-returns c = by-reading _ _ _ _ _ _ _ (c .before .before .before .before .before .program .ensures) (c .before .r .given .1)
+returns c = by-reading _ _ _ _ _ (program-requires (c .before .before .before .before .before .before) (c .before .before .before .before .before .program .lifetimes)) _ _ (c .before .before .before .before .before .program .ensures) (c .before .r .given .1)
 
 returns-2 : tie.Need-returns-2
-returns-2 c = by-naming _ _ _ _ _ _ _ (c .before .before .before .before .before .before .program .ensures) (c .before .before .r2 .given .1) _ (c .settled .ensures)
+returns-2 c = by-naming _ _ _ _ _ (program-requires (c .before .before .before .before .before .before .before .before .before) (c .before .before .before .before .before .before .before .before .program .lifetimes)) _ _ (c .before .before .before .before .before .before .before .before .program .ensures) (c .before .before .before .before .r2 .given .1) _ (rw (c .before .counts .ensures) at (c .settled .ensures))
 
 pub measured-spec : {M : Type 1} → statement M
 measured-spec =
@@ -20,9 +24,11 @@ measured-spec =
     (tie.spec
     (λ c. search needs)
     (λ c. search needs)
+    program-requires
+    (λ c. search needs)
+    (λ c. search needs)
+    (λ c. search needs)
     (λ c κs. search needs)
-    (λ c. search needs)
-    (λ c. search needs)
     settled-requires
     returns
     returns-2)

@@ -11,11 +11,11 @@ returns c = rw (c .before .fault .given .1)
 
 returns-2 : tie.Need-returns-2
 unfolding settled-by
-returns-2 c = rw (c .before .before .before .before .enum-told .given .1, lt-ltb _ _ (c .if1 .taken))
+returns-2 c = rw (c .before .before .enum-told .given .1, lt-ltb _ _ (c .if1 .taken))
 
 returns-3 : tie.Need-returns-3
 unfolding settled-by
-returns-3 c = rw (c .before .before .before .before .before .before .enum-told .given .1, le-ltb _ _ (c .before .before .if1 .left))
+returns-3 c = rw (c .before .before .before .enum-told .given .1, le-ltb _ _ (c .before .if1 .left))
 
 pub settled-spec : {M : Type 1} → statement M
 settled-spec =

@@ -1,14 +1,19 @@
 -- `compiler::write` meets its contract. Assumes nothing.
+use native.Mathlib.Omega.{arith}
 use Rattle.compiler.proofs.Decides.{not-written, written}
+use Rattle.compiler.proofs.Programs.{nothing-yet}
 use borrow.Author.Needs.{needs}
 use Rattle.compiler.proofs.write.Statement.{statement}
 use Rattle.compiler.proofs.write.Tie as tie
 
+program-requires : tie.Need-program-requires
+program-requires c κs = record { short = omega (arith, c .before .before .before .before .before .before .pre); code = omega (arith, c .before .before .before .before .before .before .pre); head = search needs; size = search needs; zeros = nothing-yet }
+
 returns : tie.Need-returns
-returns c = not-written _ _ _ _ _ _ _ (rw (c .before .before .before .before .before .before .before .before .put-cells .ensures) at (c .before .before .before .before .program .ensures)) (c .enum-told .given .1)
+returns c = not-written _ _ _ _ _ (program-requires (c .before .before .before .before .before) (c .before .before .before .before .program .lifetimes)) _ _ (rw (c .before .before .before .before .before .before .before .before .put-cells .ensures) at (c .before .before .before .before .program .ensures)) (c .enum-told .given .1)
 
 returns-2 : tie.Need-returns-2
-returns-2 c = rw (c .before .put .ensures) (written _ _ _ _ _ _ _ (rw (c .before .before .before .before .before .before .before .before .before .before .before .before .put-cells .ensures) at (c .before .before .before .before .before .before .before .before .program .ensures)) (c .before .before .before .before .r .given .1))
+returns-2 c = rw (c .before .put .ensures) (written _ _ _ _ _ (program-requires (c .before .before .before .before .before .before .before .before .before) (c .before .before .before .before .before .before .before .before .program .lifetimes)) _ _ (rw (c .before .before .before .before .before .before .before .before .before .before .before .before .put-cells .ensures) at (c .before .before .before .before .before .before .before .before .program .ensures)) (c .before .before .before .before .r .given .1))
 
 pub write-spec : {M : Type 1} → statement M
 write-spec =
@@ -16,7 +21,7 @@ write-spec =
     (tie.spec
     (λ c κs. search needs)
     (λ c. search needs)
-    (λ c κs. search needs)
+    program-requires
     (λ c. search needs)
     (λ c. search needs)
     (λ c. search needs)

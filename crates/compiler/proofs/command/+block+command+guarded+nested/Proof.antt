@@ -1,6 +1,6 @@
 -- The readers of commands with bodies meet their contracts. A nesting less is allowed inside, so the calls end. Assumes nothing.
 use Prim.Native.Nat.{ℕ, suc, _+_, _*_, _-_, _<_}
-use mathlib.Core.Path.{refl, sym, _∙_}
+use mathlib.Core.Path.{_≡_, refl, sym, _∙_}
 use native.Mathlib.Nat.{le-refl}
 use native.Mathlib.Omega.{arith}
 use borrow.Author.Needs.{needs}
@@ -8,11 +8,13 @@ use borrow.Author.Tests.{ne-eqb}
 use mir.Facts.{toZ-ofZ}
 use denote.Ref.{now}
 use lib.ListN.{length}
-use Rattle.lexeme.specs.Coded.{code-of}
-use Rattle.compiler.specs.Steps.{one-instruction, in-scope, Expects, before-body, opened-walk, closed-walk}
-use Rattle.compiler.specs.Walks.{Reads, want-nested}
-use Rattle.compiler.proofs.Bodies.{not-name, lost-ahead, crossed, First, ready-first, reads-begun, error-done, ready-inside, Headed, head-small, ready-headed, body-leads, Bodied, body-small, end-small, guarded-read, so-far-one, so-far-more, so-far-closed, More}
-use Rattle.compiler.proofs.Commands.{command-way, guarded-way, block-so-far, guarded-refused, no-body, block-first, block-more, begins-assign, begins-declare, begins-print, begins-line, begins-string, begins-read, begins-nested, too-deep-begun, no-command}
+use Rattle.lexeme.specs.Coded.{code-of, fixed-number}
+use Rattle.names.specs.Held.{opened-in}
+use Rattle.compiler.specs.Steps.{moved-to, one-instruction, Expects, before-body}
+use Rattle.compiler.specs.Walks.{First, Reads, want-nested}
+use Rattle.compiler.proofs.Bodies.{lost-ahead, crossed, ready-first, reads-begun, ready-inside, Headed, head-small, ready-headed, body-leads, Bodied, body-small, end-small, guarded-read, so-far-one, so-far-more, so-far-closed, More}
+use Rattle.compiler.proofs.Commands.{command-way, guarded-way, block-so-far, guarded-refused, no-body, block-first, block-more, Begins, begins-nested, too-deep-begun}
+use Rattle.compiler.proofs.Looked.{flag-off, flag-on}
 use Rattle.compiler.proofs.Names.{ready-opened}
 use Rattle.compiler.proofs.Passes.{condition-way}
 use Rattle.compiler.proofs.Replies.{Got, got, done, past, unread, code-fits, ready-got}
@@ -31,24 +33,20 @@ use Rattle.compiler.proofs.command.+block+command+guarded+nested.Lts-gu
 use Rattle.compiler.proofs.command.nested.Reads as nested
 use Rattle.compiler.proofs.command.nested.Kinds as nested-kinds
 use Rattle.compiler.proofs.command.+block+command+guarded+nested.Lts-nested as nested-lts
-use Rattle.compiler.proofs.command.assign.Reads as assign-reads
 use Rattle.compiler.proofs.command.before_body.Reads as before-body-reads
-use Rattle.compiler.proofs.command.declare.Reads as declare-reads
 use Rattle.compiler.proofs.command.ended.Reads as ended-reads
-use Rattle.compiler.proofs.command.print_int.Reads as print-int-reads
-use Rattle.compiler.proofs.command.print_string.Reads as print-string-reads
-use Rattle.compiler.proofs.command.read.Reads as read-reads
+use Rattle.compiler.proofs.command.has_body.Reads as has-body-reads
+use Rattle.compiler.proofs.command.without_body.Reads as without-body-reads
 use Rattle.compiler.proofs.expression.condition.Reads as condition-reads
-use Rattle.compiler.proofs.naming.closed.Reads as closed-reads
-use Rattle.compiler.proofs.naming.opened.Reads as opened-reads
 use Rattle.compiler.proofs.walk.advance.Reads as advance-reads
-use Rattle.compiler.proofs.walk.emitted.Reads as emitted-reads
 use Rattle.compiler.proofs.walk.expect.Reads as expect-reads
 use Rattle.compiler.proofs.walk.fixed_ahead.Reads as fixed-ahead-reads
 use Rattle.compiler.proofs.walk.larger.Reads as larger-reads
 use Rattle.compiler.proofs.walk.put.Reads as put-reads
 use Rattle.compiler.proofs.walk.skipped.Reads as skipped-reads
-use Rattle.lexeme.proofs.fixed_of.Reads as fixed-of-reads
+use Rattle.names.proofs.close.Reads as close-reads
+use Rattle.names.proofs.counts.Reads as counts-reads
+use Rattle.names.proofs.open.Reads as open-reads
 use Rattle.compiler.proofs.command.+block+command+guarded+nested.{statement}
 use Rattle.compiler.proofs.command.+block+command+guarded+nested.Tie.{close}
 
@@ -89,10 +87,10 @@ abbrev nested-below : ℕ → In 3 nested-kinds.ps
 nested-below t = and 3 nested-kinds.ps (falls 3 nested-kinds.ps _<_ μ-nested t) nested.Pre
 
 abbrev block-calls : ℕ → block-lts.Claims
-block-calls t = (opened-reads.Asked, opened-reads.Learnt, command-below t, command.Post, fixed-ahead-reads.Asked, fixed-ahead-reads.Learnt, closed-reads.Asked, closed-reads.Learnt, advance-reads.Asked, advance-reads.Learnt, larger-reads.Asked, larger-reads.Learnt)
+block-calls t = (counts-reads.Asked, counts-reads.Learnt, open-reads.Asked, open-reads.Learnt, command-below t, command.Post, fixed-ahead-reads.Asked, fixed-ahead-reads.Learnt, close-reads.Asked, close-reads.Learnt, advance-reads.Asked, advance-reads.Learnt, larger-reads.Asked, larger-reads.Learnt)
 
 abbrev command-calls : ℕ → command-lts.Claims
-command-calls t = (advance-reads.Asked, advance-reads.Learnt, assign-reads.Asked, assign-reads.Learnt, fixed-of-reads.Asked, fixed-of-reads.Learnt, emitted-reads.Asked, emitted-reads.Learnt, declare-reads.Asked, declare-reads.Learnt, print-int-reads.Asked, print-int-reads.Learnt, print-string-reads.Asked, print-string-reads.Learnt, read-reads.Asked, read-reads.Learnt, nested-below t, nested.Post)
+command-calls t = (fixed-ahead-reads.Asked, fixed-ahead-reads.Learnt, advance-reads.Asked, advance-reads.Learnt, has-body-reads.Asked, has-body-reads.Learnt, without-body-reads.Asked, without-body-reads.Learnt, nested-below t, nested.Post)
 
 abbrev guarded-calls : ℕ → guarded-lts.Claims
 guarded-calls t = (condition-reads.Asked, condition-reads.Learnt, before-body-reads.Asked, before-body-reads.Learnt, expect-reads.Asked, expect-reads.Learnt, skipped-reads.Asked, skipped-reads.Learnt, command-below t, command.Post, ended-reads.Asked, ended-reads.Learnt, put-reads.Asked, put-reads.Learnt, larger-reads.Asked, larger-reads.Learnt)
@@ -101,42 +99,41 @@ abbrev nested-calls : ℕ → nested-lts.Claims
 nested-calls t = (block-below t, block.Post, guarded-below t, guarded.Post)
 
 abbrev block-Inv-loop : block-lts.InvT-loop
-block-Inv-loop allow text names₀ table₀ w done₀ need₀ names table done need = More text allow (opened-walk w) names₀ table₀ done₀ need₀ names table done need
+block-Inv-loop allow text names₀ table₀ before done₀ need₀ names table done need = More text allow names₀ table₀ done₀ need₀ names table done need
 
 abbrev block-μ-loop : block-lts.MeasureT-loop
-block-μ-loop allow text names₀ table₀ w done₀ need₀ names table done need = length text - done .next .place
+block-μ-loop allow text names₀ table₀ before done₀ need₀ names table done need = length text - done .next .place
 
 block-command-requires : (t : ℕ) → block-lts.Need-command-requires (block-calls t) (block-at t) block.Post block-Inv-loop block-μ-loop
-block-command-requires t c κs = (omega (arith, c .before .before .before .before .before .pre .0), rw (c .opened .ensures) (ready-opened (c .before .before .before .before .before .pre .1)))
+block-command-requires t c κs = (omega (arith, c .before .before .before .before .before .before .before .before .before .before .pre .0), rw (c .before .before .before .before .«open» .ensures) (ready-opened (c .before .before .before .before .before .before .before .before .before .before .pre .1)))
 
 block-returns : (t : ℕ) → block-lts.Need-returns (block-calls t) (block-at t) block.Post block-Inv-loop block-μ-loop
-unfolding Reads opened-walk in-scope
-block-returns t c = rw (c .enum-told .given .1) (block-first _ _ _ .refuses _ _ (rw (c .before .before .before .before .before .before .opened .ensures, c .enum-told .given .1) at (c .before .before .before .before .before .command .ensures)))
+unfolding Reads
+block-returns t c = rw (c .enum-told .given .1) (block-first _ _ _ .refuses _ _ (rw (c .enum-told .given .1) at (c .before .before .before .before .before .command .ensures)))
 
 block-loop-holds : (t : ℕ) → block-lts.Need-loop-holds (block-calls t) (block-at t) block.Post block-Inv-loop block-μ-loop
-block-loop-holds t c = record { count-names = refl; count-table = refl; on = λ before before-table so-far. so-far }
+block-loop-holds t c = record { count-names = refl; count-table = refl; on = λ before before-table w so-far. so-far }
 
 -- the commands read when the loop's test is reached
-block-read : (t : ℕ) (c : block-lts.At-loop (block-calls t) (block-at t) block.Post block-Inv-loop block-μ-loop) → let a = c .before .before .before .before .before .before .before .before .before .before .before .before .before .args in Got block-so-far (now (a .text)) (now (a .names)) (now (a .table)) (opened-walk (a .w)) (suc (a .allow)) (c .loop .names) (c .loop .table) (c .loop .done) (record { need = c .loop .need })
-block-read t c = c .loop .inv .on _ _ (so-far-one (got command-way (c .before .before .first .given .1) (rw (c .before .before .before .before .before .before .before .before .opened .ensures) at (c .before .before .before .before .before .before .before .command .ensures))))
+block-read : (t : ℕ) (c : block-lts.At-loop (block-calls t) (block-at t) block.Post block-Inv-loop block-μ-loop) → let a = c .before .before .before .before .before .before .before .before .before .before .before .before .before .before .before .before .before .before .args in Got block-so-far (now (a .text)) (opened-in (now (a .names))) (now (a .table)) (a .w) (suc (a .allow)) (c .loop .names) (c .loop .table) (c .loop .done) (record { need = c .loop .need })
+block-read t c = c .loop .inv .on _ _ _ (so-far-one (got command-way (c .before .before .first .given .1) (rw (c .before .before .before .before .before .before .before .before .before .before .before .before .«open» .ensures) at (c .before .before .before .before .before .before .before .command .ensures))))
 
 block-advance-requires : (t : ℕ) → block-lts.Need-advance-requires (block-calls t) (block-at t) block.Post block-Inv-loop block-μ-loop
-unfolding closed-walk in-scope
-block-advance-requires t c κs = rw (c .closed .ensures) (block-read t (c .before .before .before) .passed .stands .within)
+block-advance-requires t c κs = block-read t (c .before .before .before .before .before .before) .passed .stands .within
 
 block-returns-2 : (t : ℕ) → block-lts.Need-returns-2 (block-calls t) (block-at t) block.Post block-Inv-loop block-μ-loop
 unfolding code-of
-block-returns-2 t c = so-far-closed (c .before .before .before .before .before .before .before .before .before .before .before .before .before .before .before .before .before .pre .1) (block-read t (c .before .before .before .before)) (sym (c .before .before .before .fixed-ahead .ensures) ∙ c .before .before .if1 .taken) _ (rw (c .before .closed .ensures) at (c .advance .ensures))
+block-returns-2 t c = rw (c .before .before .before .close .ensures, c .before .before .before .before .before .before .before .before .before .before .before .before .before .before .before .before .before .before .before .before .before .counts .ensures) (so-far-closed (c .before .before .before .before .before .before .before .before .before .before .before .before .before .before .before .before .before .before .before .before .before .before .before .before .before .pre .1) (block-read t (c .before .before .before .before .before .before .before)) (sym (c .before .before .before .before .before .before .fixed-ahead .ensures) ∙ c .before .before .before .before .before .if1 .taken) _ (c .advance .ensures))
 
 block-command-requires-2 : (t : ℕ) → block-lts.Need-command-requires-2 (block-calls t) (block-at t) block.Post block-Inv-loop block-μ-loop
-block-command-requires-2 t c κs = (omega (arith, c .before .before .before .before .before .before .before .before .before .before .before .before .before .before .before .before .before .pre .0), ready-got (ready-opened (c .before .before .before .before .before .before .before .before .before .before .before .before .before .before .before .before .before .pre .1)) (block-read t (c .before .before .before .before)))
+block-command-requires-2 t c κs = (omega (arith, c .before .before .before .before .before .before .before .before .before .before .before .before .before .before .before .before .before .before .before .before .before .before .pre .0), ready-got (ready-opened (c .before .before .before .before .before .before .before .before .before .before .before .before .before .before .before .before .before .before .before .before .before .before .pre .1)) (block-read t (c .before .before .before .before)))
 
 block-returns-3 : (t : ℕ) → block-lts.Need-returns-3 (block-calls t) (block-at t) block.Post block-Inv-loop block-μ-loop
-unfolding Reads opened-walk in-scope code-of
+unfolding Reads code-of
 block-returns-3 t c = rw (c .enum-told2 .given .1) (block-more _ _ (block-read t (c .before .before .before .before .before .before .before .before .before .before) .passed) (λ h. c .before .before .before .before .before .before .before .before .if1 .left (c .before .before .before .before .before .before .before .before .before .fixed-ahead .ensures ∙ h)) .refuses _ _ (rw (c .enum-told2 .given .1) at (c .before .before .before .before .before .command2 .ensures)))
 
 -- one command more
-block-next : (t : ℕ) (c : block-lts.After-r (block-calls t) (block-at t) block.Post block-Inv-loop block-μ-loop) → let a = c .before .before .before .before .before .before .before .before .before .before .before .before .before .before .before .before .before .before .before .before .before .before .before .args in Got command-way (now (a .text)) (c .before .before .before .before .before .before .before .before .before .before .loop .names) (c .before .before .before .before .before .before .before .before .before .before .loop .table) (c .before .before .before .before .before .before .before .before .before .before .loop .done) (a .allow) (c .before .before .before .before .before .command2 .last .1 .1 .0) (c .before .before .before .before .before .command2 .last .1 .1 .1 .0) (c .r .given .0 .0) (c .r .given .0 .1 .0)
+block-next : (t : ℕ) (c : block-lts.After-r (block-calls t) (block-at t) block.Post block-Inv-loop block-μ-loop) → let a = c .before .before .before .before .before .before .before .before .before .before .before .before .before .before .before .before .before .before .before .before .before .before .before .before .before .before .before .before .args in Got command-way (now (a .text)) (c .before .before .before .before .before .before .before .before .before .before .loop .names) (c .before .before .before .before .before .before .before .before .before .before .loop .table) (c .before .before .before .before .before .before .before .before .before .before .loop .done) (a .allow) (c .before .before .before .before .before .command2 .last .1 .1 .0) (c .before .before .before .before .before .command2 .last .1 .1 .1 .0) (c .r .given .0 .0) (c .r .given .0 .1 .0)
 block-next t c = got command-way (c .r .given .1) (c .before .before .before .before .before .command2 .ensures)
 
 block-loop-less : (t : ℕ) → block-lts.Need-loop-less (block-calls t) (block-at t) block.Post block-Inv-loop block-μ-loop
@@ -147,88 +144,48 @@ unfolding code-of
 block-loop-again t c = record {
   count-names = c .before .before .before .before .before .before .before .command2 .kept .1 .1 .0 ∙ c .before .before .before .before .before .before .before .before .before .before .before .before .loop .inv .count-names;
   count-table = c .before .before .before .before .before .before .before .command2 .kept .1 .1 .1 .0 ∙ c .before .before .before .before .before .before .before .before .before .before .before .before .loop .inv .count-table;
-  on = λ before before-table so-far. rw (c .larger .ensures) (so-far-more (c .before .before .before .before .before .before .before .before .before .before .before .before .loop .inv .on before before-table so-far) (λ h. c .before .before .before .before .before .before .before .before .before .before .if1 .left (c .before .before .before .before .before .before .before .before .before .before .before .fixed-ahead .ensures ∙ h)) (block-next t (c .before .before)));
+  on = λ before before-table w so-far. rw (c .larger .ensures) (so-far-more (c .before .before .before .before .before .before .before .before .before .before .before .before .loop .inv .on before before-table w so-far) (λ h. c .before .before .before .before .before .before .before .before .before .before .if1 .left (c .before .before .before .before .before .before .before .before .before .before .before .fixed-ahead .ensures ∙ h)) (block-next t (c .before .before)));
 }
 
 command-advance-requires : (t : ℕ) → command-lts.Need-advance-requires (command-calls t) (command-at t) command.Post
-command-advance-requires t c κs = c .before .before .before .pre .1 .stands .within
+command-advance-requires t c κs = c .before .before .before .before .pre .1 .stands .within
 
 command-returns : (t : ℕ) → command-lts.Need-returns (command-calls t) (command-at t) command.Post
 unfolding Reads
-command-returns t c = rw (c .enum-told .given .1) (lost-ahead command-way _ (c .before .before .before .before .before .before .pre .1 .stands) (unread _ _ _ (c .before .before .advance .ensures) (c .enum-told .given .1)))
+command-returns t c = rw (c .enum-told .given .1) (lost-ahead command-way _ (c .before .before .before .before .before .before .before .pre .1 .stands) (unread _ _ _ (c .before .before .advance .ensures) (c .enum-told .given .1)))
 
 -- the walk after the first lexeme
-command-first : (t : ℕ) (c : command-lts.After-a (command-calls t) (command-at t) command.Post) → let a = c .before .before .before .before .before .before .args in First (now (a .text)) (now (a .names)) (a .w) (a .allow) (c .a .given .0 .0)
-command-first t c = record { ready = c .before .before .before .before .before .before .pre .1; past = past _ _ _ (c .before .before .advance .ensures) (c .a .given .1) }
+command-first : (t : ℕ) (c : command-lts.After-a (command-calls t) (command-at t) command.Post) → let a = c .before .before .before .before .before .before .before .args in First (now (a .text)) (now (a .names)) (a .w) (a .allow) (c .a .given .0 .0)
+command-first t c = record { ready = c .before .before .before .before .before .before .before .pre .1; past = past _ _ _ (c .before .before .advance .ensures) (c .a .given .1) }
 
-command-assign-requires : (t : ℕ) → command-lts.Need-assign-requires (command-calls t) (command-at t) command.Post
-command-assign-requires t c κs = ready-first (command-first t (c .before .before .before .before .before)) (le-refl _)
+-- which is where it stood before, but for the lexeme ahead
+command-whole : (t : ℕ) (c : command-lts.After-a (command-calls t) (command-at t) command.Post) → moved-to (c .a .given .0 .0) (c .before .before .before .before .before .before .before .args .w .next) ≡ c .before .before .before .before .before .before .before .args .w
+unfolding moved-to
+command-whole t c = rw (command-first t c .past .moved)
+
+command-without-body-requires : (t : ℕ) → command-lts.Need-without-body-requires (command-calls t) (command-at t) command.Post
+command-without-body-requires t c κs = rw (command-whole t (c .before .before .before .before .before)) (command-first t (c .before .before .before .before .before), rw (c .before .before .before .before .before .before .before .before .fixed-ahead .ensures) at (sym (c .before .before .before .has-body .ensures) ∙ flag-off _ (c .before .before .if1 .taken)))
 
 command-returns-2 : (t : ℕ) → command-lts.Need-returns-2 (command-calls t) (command-at t) command.Post
-command-returns-2 t c = reads-begun (command-first t (c .before .before .before .before .before .before .before)) (begins-assign _ (c .before .before .before .before .enum-told2 .given .1)) _ _ _ _ (omega arith) refl (c .before .assign .ensures)
+command-returns-2 t c = rw (command-whole t (c .before .before .before .before .before .before .before .before .before)) at (c .before .before .before .without-body .ensures)
 
-command-emitted-requires : (t : ℕ) → command-lts.Need-emitted-requires (command-calls t) (command-at t) command.Post
-command-emitted-requires t c κs = code-fits (ready-first (command-first t (c .before .before .before .before .before)) (le-refl _))
-
-command-declare-requires : (t : ℕ) → command-lts.Need-declare-requires (command-calls t) (command-at t) command.Post
-command-declare-requires t c κs = ready-first (command-first t (c .before .before .before .before .before .before)) (le-refl _)
-
-command-print-int-requires : (t : ℕ) → command-lts.Need-print-int-requires (command-calls t) (command-at t) command.Post
-command-print-int-requires t c κs = ready-first (command-first t (c .before .before .before .before .before .before)) (le-refl _)
-
-command-print-string-requires : (t : ℕ) → command-lts.Need-print-string-requires (command-calls t) (command-at t) command.Post
-command-print-string-requires t c κs = ready-first (command-first t (c .before .before .before .before .before .before)) (le-refl _)
-
-command-print-string-requires-2 : (t : ℕ) → command-lts.Need-print-string-requires-2 (command-calls t) (command-at t) command.Post
-command-print-string-requires-2 t c κs = ready-first (command-first t (c .before .before .before .before .before .before)) (le-refl _)
-
-command-read-requires : (t : ℕ) → command-lts.Need-read-requires (command-calls t) (command-at t) command.Post
-command-read-requires t c κs = ready-first (command-first t (c .before .before .before .before .before .before)) (le-refl _)
+-- a command with a body
+command-begins : (t : ℕ) (c : command-lts.Else1 (command-calls t) (command-at t) command.Post) → Begins (c .before .before .before .before .before .before .before .before .before .before .pre .1 .stands) 1 (want-nested (fixed-number (c .before .before .before .before .before .before .before .before .before .before .args .w .next .kind)))
+command-begins t c = begins-nested _ (rw (c .before .before .before .before .before .before .fixed-ahead .ensures) at (sym (c .before .has-body .ensures) ∙ flag-on _ (c .if1 .left)))
 
 command-returns-3 : (t : ℕ) → command-lts.Need-returns-3 (command-calls t) (command-at t) command.Post
 unfolding Reads
-command-returns-3 t c = too-deep-begun _ (begins-nested (c .before .before .before .before .before .before .before .before .before .before .before .pre .1 .stands) (rw (c .before .before .fixed-of .ensures) at (c .before .match3 .keys7))) (omega (arith, c .if1 .taken))
+command-returns-3 t c = too-deep-begun _ (command-begins t (c .before)) (omega (arith, c .if2 .taken))
 
 command-sub-nested : (t : ℕ) → command-lts.Need-sub-nested (command-calls t) (command-at t) command.Post
-command-sub-nested t c = omega (arith, c .if1 .left)
+command-sub-nested t c = omega (arith, c .if2 .left)
 
 command-nested-requires : (t : ℕ) → command-lts.Need-nested-requires (command-calls t) (command-at t) command.Post
-command-nested-requires t c κs = (omega (arith, c .before .before .before .before .before .before .before .before .before .before .before .before .before .pre .0, c .before .before .if1 .left), ready-first (command-first t (c .before .before .before .before .before .before .before)) (omega (arith, c .before .before .if1 .left)))
+command-nested-requires t c κs = (omega (arith, c .before .before .before .before .before .before .before .before .before .before .before .before .before .pre .0, c .before .before .if2 .left), ready-first (command-first t (c .before .before .before .before .before .before)) (omega (arith, c .before .before .if2 .left)))
 
 command-returns-4 : (t : ℕ) → command-lts.Need-returns-4 (command-calls t) (command-at t) command.Post
-unfolding code-of
-command-returns-4 t c = rw (c .before .emitted .ensures .0, c .before .emitted .ensures .1) (done command-way refl (error-done (command-first t (c .before .before .before .before .before .before .before)) (sym (c .before .before .before .before .fixed-of .ensures) ∙ c .before .before .before .match3 .keys1)))
-
-command-returns-5 : (t : ℕ) → command-lts.Need-returns-5 (command-calls t) (command-at t) command.Post
-unfolding code-of
-command-returns-5 t c = reads-begun (command-first t (c .before .before .before .before .before .before .before .before .before .before)) (begins-declare _ (sym (c .before .before .before .before .before .before .before .fixed-of .ensures) ∙ c .before .before .before .before .before .before .match3 .keys2)) _ _ _ _ (omega arith) refl (c .before .before .before .declare .ensures)
-
-command-returns-6 : (t : ℕ) → command-lts.Need-returns-6 (command-calls t) (command-at t) command.Post
-unfolding code-of
-command-returns-6 t c = reads-begun (command-first t (c .before .before .before .before .before .before .before .before)) (begins-print _ (sym (c .before .before .before .before .before .fixed-of .ensures) ∙ c .before .before .before .before .match3 .keys3)) _ _ _ _ (omega arith) refl (c .before .print-int .ensures)
-
-command-returns-7 : (t : ℕ) → command-lts.Need-returns-7 (command-calls t) (command-at t) command.Post
-unfolding code-of
-command-returns-7 t c = reads-begun (command-first t (c .before .before .before .before .before .before .before .before)) (begins-line _ (sym (c .before .before .before .before .before .fixed-of .ensures) ∙ c .before .before .before .before .match3 .keys4)) _ _ _ _ (omega arith) refl (c .before .print-string .ensures)
-
-command-returns-8 : (t : ℕ) → command-lts.Need-returns-8 (command-calls t) (command-at t) command.Post
-unfolding code-of
-command-returns-8 t c = reads-begun (command-first t (c .before .before .before .before .before .before .before .before)) (begins-string _ (sym (c .before .before .before .before .before .fixed-of .ensures) ∙ c .before .before .before .before .match3 .keys5)) _ _ _ _ (omega arith) refl (c .before .print-string2 .ensures)
-
-command-returns-9 : (t : ℕ) → command-lts.Need-returns-9 (command-calls t) (command-at t) command.Post
-unfolding code-of
-command-returns-9 t c = reads-begun (command-first t (c .before .before .before .before .before .before .before .before)) (begins-read _ (sym (c .before .before .before .before .before .fixed-of .ensures) ∙ c .before .before .before .before .match3 .keys6)) _ _ _ _ (omega arith) refl (c .before .read .ensures)
-
-command-returns-10 : (t : ℕ) → command-lts.Need-returns-10 (command-calls t) (command-at t) command.Post
-command-returns-10 t c = reads-begun (command-first t (c .before .before .before .before .before .before .before .before .before .before .before)) (begins-nested _ (rw (c .before .before .before .before .before .before .before .before .fixed-of .ensures) at (c .before .before .before .before .before .before .before .match3 .keys7))) _ _ _ _ (omega (arith, c .before .before .before .before .before .before .if1 .left)) (omega (arith, c .before .before .before .before .before .before .if1 .left)) (rw (c .before .before .before .before .before .before .before .before .fixed-of .ensures) at (c .before .before .before .nested .ensures))
-
-command-returns-11 : (t : ℕ) → command-lts.Need-returns-11 (command-calls t) (command-at t) command.Post
-unfolding Reads code-of
-command-returns-11 t c =
-    let n = c .before .fixed-of .ensures in
-    let rest = c .match3 .rest in
-    no-command (c .before .before .before .before .before .before .before .before .before .before .pre .1 .stands) _ (not-name (c .before .before .match2 .keys2))
-    (λ h. rest .0 .0 .0 .0 .0 .0 .1 (n ∙ h)) (λ h. rest .0 .0 .0 .0 .0 .1 (n ∙ h)) (λ h. rest .0 .0 .0 .0 .1 (n ∙ h)) (λ h. rest .0 .0 .0 .1 (n ∙ h)) (λ h. rest .0 .0 .1 (n ∙ h)) (λ h. rest .0 .1 (n ∙ h)) (λ h. rest .1 (rw n h))
+unfolding command-first want-nested
+command-returns-4 t c = reads-begun (command-first t (c .before .before .before .before .before .before .before .before .before .before)) (command-begins t (c .before .before .before .before .before .before .before)) _ _ _ _ (omega (arith, c .before .before .before .before .before .before .if2 .left)) (omega (arith, c .before .before .before .before .before .before .if2 .left)) (rw (c .before .before .before .before .before .before .before .before .before .before .before .before .before .fixed-ahead .ensures) at (c .before .before .before .nested .ensures))
 
 guarded-condition-requires : (t : ℕ) → guarded-lts.Need-condition-requires (guarded-calls t) (guarded-at t) guarded.Post
 guarded-condition-requires t c κs = ready-inside (c .before .before .before .before .pre .1)
@@ -292,14 +249,14 @@ nested-block-requires : (t : ℕ) → nested-lts.Need-block-requires (nested-cal
 nested-block-requires t c κs = (omega (arith, c .before .before .before .before .before .pre .0), c .before .before .before .before .before .pre .1)
 
 nested-returns : (t : ℕ) → nested-lts.Need-returns (nested-calls t) (nested-at t) nested.Post
-unfolding want-nested
+unfolding want-nested code-of
 nested-returns t c = rw (c .before .before .before .before .before .before .if1 .taken) (c .before .before .before .block .ensures)
 
 nested-guarded-requires : (t : ℕ) → nested-lts.Need-guarded-requires (nested-calls t) (nested-at t) nested.Post
 nested-guarded-requires t c κs = (omega (arith, c .before .before .before .before .before .pre .0), c .before .before .before .before .before .pre .1)
 
 nested-returns-2 : (t : ℕ) → nested-lts.Need-returns-2 (nested-calls t) (nested-at t) nested.Post
-unfolding want-nested
+unfolding want-nested code-of
 nested-returns-2 t c = rw (ne-eqb _ _ (c .before .before .before .before .before .before .if1 .left)) (c .before .before .before .guarded .ensures)
 
 pub +block+command+guarded+nested-spec : {M : Type 1} → statement M
@@ -309,6 +266,7 @@ pub +block+command+guarded+nested-spec : {M : Type 1} → statement M
     block.Post
     block-Inv-loop
     block-μ-loop
+    (λ c κs. search needs)
     (λ c κs. search needs)
     (block-command-requires t)
     (λ c. search needs)
@@ -335,46 +293,22 @@ pub +block+command+guarded+nested-spec : {M : Type 1} → statement M
     (λ t. command-lts.spec (command-calls t)
     (command-at t)
     command.Post
+    (λ c κs. search needs)
     (command-advance-requires t)
     (λ c. search needs)
     (λ c. search needs)
     (command-returns t)
-    (λ c. search needs)
-    (command-assign-requires t)
+    (λ c κs. search needs)
+    (command-without-body-requires t)
     (λ c. search needs)
     (λ c. search needs)
     (command-returns-2 t)
-    (λ c κs. search needs)
-    (command-emitted-requires t)
-    (command-declare-requires t)
-    (command-print-int-requires t)
-    (command-print-string-requires t)
-    (command-print-string-requires-2 t)
-    (command-read-requires t)
     (command-returns-3 t)
     (command-sub-nested t)
     (command-nested-requires t)
     (λ c. search needs)
-    (command-returns-4 t)
     (λ c. search needs)
-    (λ c. search needs)
-    (command-returns-5 t)
-    (λ c. search needs)
-    (λ c. search needs)
-    (command-returns-6 t)
-    (λ c. search needs)
-    (λ c. search needs)
-    (command-returns-7 t)
-    (λ c. search needs)
-    (λ c. search needs)
-    (command-returns-8 t)
-    (λ c. search needs)
-    (λ c. search needs)
-    (command-returns-9 t)
-    (λ c. search needs)
-    (λ c. search needs)
-    (command-returns-10 t)
-    (command-returns-11 t))
+    (command-returns-4 t))
     (λ t. guarded-lts.spec (guarded-calls t)
     (guarded-at t)
     guarded.Post

@@ -107,21 +107,21 @@ module _ {text names : List ℕ} (table : List ℤ) {table′ : List ℤ} {w x :
         S.literal (operand-of v),
         literal-factor (ready .stands) allow (p .follows) v h,
         subst (λ (y : Walk). Lays text names table w (S.literal (operand-of v)) names table′ y g) (sym (p .moved))
-            (rw (t, o, gives-need text x 1 a refl) (lays-literal (operand-of v) (u .next) (omega (arith, ready .stands .some (literal-goes (w .next) h), p .follows .later)) (ready .fine))),
+            (rw (t, o, gives-need text x 1 a refl) (lays-literal (operand-of v) (u .next) (omega (arith, ready .stands .some (literal-goes (w .next) h), p .follows .later)) (ready .sound))),
       )
   literal-read h e o t (Refused why p) a = lost-first factor-way text (w .next) allow (literal-goes (w .next) h) (rw e at (unread text x 1 a refl))
 
-  variable-read : w .next .kind ≡ kind.Name → let c = cell-of text names w (w .next) in
+  variable-read : w .next .kind ≡ kind.Name → let c = cell-of text names (w .next) in
       x ≡ one-instruction (noted-walk c w (w .next .place)) → table′ ≡ put table (w .code) (pos 3 ∷ pos (cell-number c) ∷ []) → (r : Read) → Advances text x 1 r → Reads-factor text names table w allow r names table′
   unfolding Reads one-instruction
   variable-read h e t (Done u g) a =
-      let c = cell-of text names w (w .next) in
+      let c = cell-of text names (w .next) in
       let p = subst (λ (y : Walk). Past text y u) e (past text x 1 a refl) in
       let f = rw (noted-is c w (w .next .place)) at (p .follows) in (
         S.variable (name-of text (w .next)),
         variable-factor (ready .stands) allow f h,
         subst (λ (y : Walk). Lays text names table w (S.variable (name-of text (w .next))) names table′ y g) (sym (p .moved))
-            (rw (t, gives-need text x 1 a refl) (lays-variable (u .next) (omega (arith, ready .stands .some (name-goes (w .next) h), f .later)) (ready .fine))),
+            (rw (t, gives-need text x 1 a refl) (lays-variable (u .next) (omega (arith, ready .stands .some (name-goes (w .next) h), f .later)) (ready .sound))),
       )
   variable-read h e t (Refused why p) a = lost-first factor-way text (w .next) allow (name-goes (w .next) h) (rw (e, noted-is) at (unread text x 1 a refl))
 

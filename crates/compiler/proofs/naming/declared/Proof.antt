@@ -1,16 +1,17 @@
 -- `compiler::naming::declared` meets its contract. Assumes nothing.
-use Rattle.compiler.specs.Steps.{declared-walk, Declares-ahead}
+use mathlib.Core.Path.{sym, _∙_}
 use borrow.Author.Needs.{needs}
+use Rattle.compiler.specs.Steps.{declared-walk}
 use Rattle.compiler.proofs.naming.declared.Statement.{statement}
 use Rattle.compiler.proofs.naming.declared.Tie as tie
 
 returns : tie.Need-returns
-unfolding Declares-ahead declared-walk
-returns c = (_, rw (c .before .before .d .given .1) at (c .before .before .before .before .before .before .declare .ensures), c .scoped .ensures)
+unfolding declared-walk
+returns c = (rw (sym (c .before .before .before .declare .ensures .0) ∙ c .if1 .taken), c .before .before .before .declare .ensures .1)
 
 returns-2 : tie.Need-returns-2
-unfolding Declares-ahead declared-walk
-returns-2 c = (_, rw (c .before .enum-told .given .1) at (c .before .before .before .before .before .declare .ensures), c .faulted .ensures)
+unfolding declared-walk
+returns-2 c = (rw (sym (c .before .before .before .before .declare .ensures .0) ∙ c .before .if1 .left) (c .faulted .ensures), c .before .before .before .before .declare .ensures .1)
 
 pub declared-spec : {M : Type 1} → statement M
 declared-spec =
@@ -18,10 +19,7 @@ declared-spec =
     (tie.spec
     (λ c κs. search needs)
     (λ c. search needs)
-    (λ c κs. search needs)
-    (λ c. search needs)
-    (λ c κs. search needs)
-    (λ c. search needs)
     returns
+    (λ c κs. search needs)
     (λ c. search needs)
     returns-2)

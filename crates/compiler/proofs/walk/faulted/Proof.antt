@@ -10,7 +10,7 @@ returns c = rw (c .enum-told .given .1)
 
 returns-2 : tie.Need-returns-2
 unfolding faulted-walk first-fault
-returns-2 c = rw (c .before .before .enum-told2 .given .1)
+returns-2 c = rw (c .before .enum-told2 .given .1)
 
 pub faulted-spec : {M : Type 1} → statement M
 faulted-spec = tie.close (tie.spec (λ c. search needs) returns (λ c. search needs) returns-2)
