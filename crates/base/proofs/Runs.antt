@@ -1,15 +1,16 @@
 -- Laws of runs. Assumes nothing.
 use mathlib.Core.Path.{_≡_, refl, ap, _∙_}
 use mathlib.Core.List.{List, [], _∷_}
-use mathlib.Core.Bool.{Bool, true, false}
+use mathlib.Core.Bool.{Bool, true, false, _&&_, _||_, or-comm}
 use Prim.Native.Nat.{ℕ, suc, _+_, _-_, _≤_, _<_}
 use native.Mathlib.Nat.{le-refl}
 use native.Mathlib.Numerals.{add-one}
 use native.Mathlib.Omega.{arith}
-use lib.Dec.{eqb, eqb·zero-suc, eqb·suc-suc}
+use lib.Dec.{leb, ltb}
+use borrow.Author.Tests.{lt-leb, leb-true, ltb-true, ltb-false}
 use lib.ListN.{length, getD, take, drop, drop-of-length-le}
 use lib.Seq.{drop-cons}
-use Rattle.base.specs.Bytes.{run, all}
+use Rattle.base.specs.Bytes.{letter, small, capital, digit, letter-or-digit, run, begins, all}
 
 module _ (such : ℕ → Bool) where
   -- a run after the test of its first byte
@@ -47,16 +48,6 @@ module _ (such : ℕ → Bool) where
       by-test h true = omega arith
       by-test h false = omega arith
 
-  -- all of w is such where the run goes to its end
-  pub all-run : (w : List ℕ) → eqb (length (run such w)) (length w) ≡ all such w
-  unfolding run all
-  all-run [] = refl
-  all-run (b ∷ w) = by-test (all-run w) (such b)
-    where
-      by-test : eqb (length (run such w)) (length w) ≡ all such w → (t : Bool) → eqb (length (after b w t)) (suc (length w)) ≡ elim t [ true ↦ all such w | false ↦ false ]
-      by-test e true = eqb·suc-suc (length (run such w)) (length w) ∙ e
-      by-test e false = eqb·zero-suc (length w)
-
   -- a loop over a run, at the place where it stands
   module _ (s : List ℕ) (i : ℕ) where
     pub run-on : i < length s → such (getD s i 0) ≡ true → i + 1 + length (run such (drop (i + 1) s)) ≡ i + length (run such (drop i s))
@@ -68,3 +59,106 @@ module _ (such : ℕ → Bool) where
     pub run-out : length s ≤ i → i ≡ i + length (run such (drop i s))
     unfolding run
     run-out p = rw (drop-of-length-le s p) (omega arith)
+
+-- ---- the first byte
+
+module _ (such : ℕ → Bool) (s : List ℕ) (i : ℕ) where
+  pub begins-at : i < length s → begins such (drop i s) ≡ such (getD s i 0)
+  unfolding begins
+  begins-at h = rw (drop-cons s i 0 h)
+
+  pub begins-none : length s ≤ i → begins such (drop i s) ≡ false
+  unfolding begins
+  begins-none h = rw (drop-of-length-le s h)
+
+  pub begins-within : begins such (drop i s) ≡ true → i < length s
+  begins-within h = by (ltb i (length s)) refl
+    where
+      by : (t : Bool) → ltb i (length s) ≡ t → i < length s
+      by true e = ltb-true i (length s) e
+      by false e = let z : _≡_ {A = ℕ} 0 1 = cc (begins-none (ltb-false i (length s) e)) in absurd (omega arith)
+
+-- a place where no such byte stands ends its own run
+pub run-none : (such : ℕ → Bool) (s : List ℕ) → begins such s ≡ false → run such s ≡ []
+unfolding begins
+run-none such [] h = unfold run in refl
+run-none such (b ∷ s) h = run-no such b s h
+
+-- ---- runs of two kinds of bytes
+
+pub all-own : (such : ℕ → Bool) (s : List ℕ) → all such (run such s) ≡ true
+unfolding run all
+all-own such [] = refl
+all-own such (b ∷ s) = by-test (all-own such s) (such b) refl
+  where
+    by-test : all such (run such s) ≡ true → (t : Bool) → such b ≡ t → all such (elim t as (λ _. List ℕ) [ true ↦ b ∷ run such s | false ↦ [] ]) ≡ true
+    by-test e true h = ap (λ (t : Bool). elim t as (λ _. Bool) [ true ↦ all such (run such s) | false ↦ false ]) h ∙ e
+    by-test e false h = refl
+
+module _ (such other both : ℕ → Bool) (is : (b : ℕ) → both b ≡ (such b || other b)) where
+  abbrev stop : List ℕ → List ℕ
+  stop s = drop (length (run such s)) s
+
+  -- a run of such bytes, after which none of the others stands, is a run of both
+  pub run-alone : (s : List ℕ) → begins other (stop s) ≡ false → run both s ≡ run such s
+  unfolding begins
+  run-alone [] h = unfold run in refl
+  run-alone (b ∷ s) h = by-test (run-alone s) (such b) refl
+    where
+      by-test : (begins other (stop s) ≡ false → run both s ≡ run such s) → (t : Bool) → such b ≡ t → run both (b ∷ s) ≡ run such (b ∷ s)
+      by-test on true e = rw (run-yes such b s e, run-yes both b s (is b ∙ ap (λ (t : Bool). t || other b) e)) (ap (λ (l : List ℕ). b ∷ l) (on (rw (run-yes such b s e) at h)))
+      by-test on false e = rw (run-no such b s e, run-no both b s (is b ∙ rw (e) (rw (run-no such b s e) at h)))
+
+  -- one after which another stands is not all of such bytes
+  pub run-mixed : (s : List ℕ) → begins other (stop s) ≡ true → all such (run both s) ≡ false
+  unfolding begins
+  run-mixed [] h = unfold run in absurd (let z : _≡_ {A = ℕ} 0 1 = cc in omega arith)
+  run-mixed (b ∷ s) h = by-test (run-mixed s) (such b) refl
+    where
+      by-test : (begins other (stop s) ≡ true → all such (run both s) ≡ false) → (t : Bool) → such b ≡ t → all such (run both (b ∷ s)) ≡ false
+      by-test on true e = rw (run-yes both b s (is b ∙ ap (λ (t : Bool). t || other b) e)) (unfold all in rw (all, e) (on (rw (run-yes such b s e) at h)))
+      by-test on false e = rw (run-yes both b s (is b ∙ rw (e) (rw (run-no such b s e) at h))) (unfold all in rw (all, e))
+
+  -- one that begins with such a byte is not all of the others
+  pub run-begun : ((b : ℕ) → such b ≡ true → other b ≡ false) → (s : List ℕ) → begins such s ≡ true → all other (run both s) ≡ false
+  unfolding begins
+  run-begun apart [] h = absurd (let z : _≡_ {A = ℕ} 0 1 = cc in omega arith)
+  run-begun apart (b ∷ s) h = rw (run-yes both b s (is b ∙ ap (λ (t : Bool). t || other b) h)) (unfold all in rw (all, apart b h))
+
+-- ---- letters and digits
+
+second : (a b : Bool) → (a && b) ≡ true → b ≡ true
+second true b h = h
+second false b h = let z : _≡_ {A = ℕ} 0 1 = cc in absurd (omega arith)
+
+pub digit-apart : (b : ℕ) → digit b ≡ true → letter b ≡ false
+unfolding digit letter small capital
+digit-apart b h = let n = leb-true b 57 (second (leb 48 b) (leb b 57) h) in rw (lt-leb 97 b (omega arith), lt-leb 65 b (omega arith))
+
+pub letter-apart : (b : ℕ) → letter b ≡ true → digit b ≡ false
+letter-apart b h = by (digit b) refl
+  where
+    by : (t : Bool) → digit b ≡ t → digit b ≡ false
+    by true e = let z : _≡_ {A = ℕ} 0 1 = cc (digit-apart b e) in absurd (omega arith)
+    by false e = e
+
+pub letters-first : (b : ℕ) → letter-or-digit b ≡ (letter b || digit b)
+unfolding letter-or-digit
+letters-first b = refl
+
+pub digits-first : (b : ℕ) → letter-or-digit b ≡ (digit b || letter b)
+unfolding letter-or-digit
+digits-first b = or-comm (letter b) (digit b)
+
+module _ (b : ℕ) where
+  pub letter-is : letter b ≡ true → letter-or-digit b ≡ true
+  unfolding letter-or-digit
+  letter-is h = rw h
+
+  pub digit-is : digit b ≡ true → letter-or-digit b ≡ true
+  unfolding letter-or-digit
+  digit-is h = rw (digit-apart b h, h)
+
+  pub neither-is : letter b ≡ false → digit b ≡ false → letter-or-digit b ≡ false
+  unfolding letter-or-digit
+  neither-is h k = rw (h, k)

@@ -47,6 +47,11 @@ unfoldable pub run : (ℕ → Bool) → List ℕ → List ℕ
 run such [] = []
 run such (b ∷ s) = elim (such b) [ true ↦ b ∷ run such s | false ↦ [] ]
 
+-- whether such a byte stands first
+unfoldable pub begins : (ℕ → Bool) → List ℕ → Bool
+begins such [] = false
+begins such (b ∷ s) = such b
+
 unfoldable pub all : (ℕ → Bool) → List ℕ → Bool
 all such [] = true
 all such (b ∷ s) = elim (such b) [ true ↦ all such s | false ↦ false ]

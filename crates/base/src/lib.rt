@@ -3,7 +3,7 @@ ghost use mathlib.Core.Path.{_≡_};
 ghost use Prim.Native.Nat.{_+_, min};
 ghost use lib.IntN.{pos};
 ghost use lib.ListN.{length, drop, replicate};
-ghost use Rattle.base.specs.Bytes.{separator, letter, digit, run, all, same, part};
+ghost use Rattle.base.specs.Bytes.{separator, letter, digit, run, begins, same, part};
 ghost use Rattle.base.specs.Kinds.{such};
 ghost use Rattle.base.specs.Answers.{number};
 
@@ -83,6 +83,16 @@ pub fn is_such(kind: Such, b: u8) -> bool
     }
 }
 
+// Whether such a byte stands at a place.
+pub fn is_at(text: &[u8], at: usize, kind: Such) -> bool
+    ensures { λ r. ⌜ r ≡ begins (such kind) (drop at (now (text .entry))) ⌝ }
+{
+    if text.len() <= at {
+        return false;
+    }
+    is_such(kind, text[at])
+}
+
 // The end of the longest run of such bytes from a place on; the place itself where it is past the text.
 pub fn run_end(text: &[u8], at: usize, kind: Such) -> usize
     ensures { λ r. ⌜ r ≡ at + length (run (such kind) (drop at (now (text .entry)))) ⌝ }
@@ -95,12 +105,6 @@ pub fn run_end(text: &[u8], at: usize, kind: Such) -> usize
         i += 1;
     }
     i
-}
-
-pub fn is_all(word: &[u8], kind: Such) -> bool
-    ensures { λ r. ⌜ r ≡ all (such kind) (now (word .entry)) ⌝ }
-{
-    run_end(word, 0, kind) == word.len()
 }
 
 pub fn smaller(a: usize, b: usize) -> usize

@@ -5,11 +5,13 @@ use mathlib.Core.Bool.{Bool, true, false}
 use Prim.Native.Nat.{ℕ, _+_, _≤_, _<_}
 use native.Mathlib.Omega.{arith}
 use lib.ListN.{length, getD, drop, length-drop}
+use lib.Seq.{drop-drop}
 use borrow.Author.Tests.{le-leb, lt-leb}
 use Rattle.base.specs.declared.Refusal.the-variants.{NoLexeme}
 use Rattle.base.specs.Answers.{refused}
-use Rattle.base.specs.Bytes.{small, no-quote, run, same}
-use Rattle.lexeme.specs.Lexemes.{Keyword, fixed, capital-word, starts-small, string, string-at, found}
+use Rattle.base.proofs.Runs.{all-own, run-alone, run-mixed, run-begun, digit-apart, letter-apart, letters-first, digits-first}
+use Rattle.base.specs.Bytes.{small, letter, digit, letter-or-digit, no-quote, run, begins, all, same, value}
+use Rattle.lexeme.specs.Lexemes.{Keyword, lit, fixed, capital-word, starts-small, letter-word, word, string, string-at, found}
 use Rattle.lexeme.specs.Coded.{code-of, kind-of}
 use Rattle.lexeme.specs.declared.Kind.{Kind}
 use Rattle.lexeme.specs.declared.Kind.the-variants.{Fixed}
@@ -44,6 +46,38 @@ pub starts-first : (w : List ℕ) → (length w ≡ 0 → ⊥) → starts-small 
 unfolding starts-small
 starts-first [] n = absurd (n refl)
 starts-first (b ∷ w) n = refl
+
+-- a word at p, where e is the place after the letters, or the digits, that it begins with
+module _ (text : List ℕ) (p e : ℕ) where
+  abbrev whole : List ℕ
+  whole = run letter-or-digit (drop p text)
+
+  -- what stands after a run that begins at p
+  after-run : (such other : ℕ → Bool) {t : Bool} → e ≡ p + length (run such (drop p text)) → begins other (drop e text) ≡ t → begins other (drop (length (run such (drop p text))) (drop p text)) ≡ t
+  after-run such other h b = rw (drop-drop (length (run such (drop p text))) p text, ← h) b
+
+  module _ (run-ends : e ≡ p + length (run letter (drop p text))) where
+    pub letters-alone : begins digit (drop e text) ≡ false → word p whole ≡ found p (letter-word p (run letter (drop p text))) e
+    unfolding word
+    letters-alone n = rw (run-alone letter digit letter-or-digit letters-first (drop p text) (after-run letter digit run-ends n), all-own letter (drop p text), run-ends) refl
+
+    pub letters-mixed : begins letter (drop p text) ≡ true → begins digit (drop e text) ≡ true → word p whole ≡ refused NoLexeme p
+    unfolding word
+    letters-mixed b n = rw (run-mixed letter digit letter-or-digit letters-first (drop p text) (after-run letter digit run-ends n), run-begun letter digit letter-or-digit letters-first letter-apart (drop p text) b)
+
+  module _ (run-ends : e ≡ p + length (run digit (drop p text))) (b : begins digit (drop p text) ≡ true) where
+    no-letters : all letter whole ≡ false
+    no-letters = run-begun digit letter letter-or-digit digits-first digit-apart (drop p text) b
+
+    pub digits-alone : begins letter (drop e text) ≡ false → word p whole ≡ found p (lit (value 0 (run digit (drop p text)))) e
+    unfolding word
+    digits-alone n =
+        let same = run-alone digit letter letter-or-digit digits-first (drop p text) (after-run digit letter run-ends n) in
+        rw (no-letters, same, all-own digit (drop p text), run-ends) refl
+
+    pub digits-mixed : begins letter (drop e text) ≡ true → word p whole ≡ refused NoLexeme p
+    unfolding word
+    digits-mixed n = rw (no-letters, run-mixed digit letter letter-or-digit digits-first (drop p text) (after-run digit letter run-ends n))
 
 -- a string whose opening quote is at p, where e is the place of the next quote, or the text's length
 module _ (text : List ℕ) (p e : ℕ) (run-ends : e ≡ p + 1 + length (run no-quote (drop (p + 1) text))) where

@@ -1,9 +1,10 @@
 // The reader of lexemes: the next one of a text, which knows no limits, and the scan of a whole text, which tests them: refusals 1, 2 and 3.
 ghost use mathlib.Core.Path.{_≡_};
+ghost use mathlib.Core.Bool.{true};
 ghost use Prim.Native.Nat.{_+_, _-_, _≤_, _<_, min};
 ghost use lib.Dec.{ltb};
 ghost use lib.ListN.{length, drop};
-ghost use Rattle.base.specs.Bytes.{value};
+ghost use Rattle.base.specs.Bytes.{separator, letter, digit, letter-or-digit, run, begins, value};
 ghost use Rattle.lexeme.specs.Lexemes.{word, string-at, symbols, symbol, colon, next, lexemes};
 ghost use Rattle.lexeme.specs.Coded.{coded, scanned, large};
 use base::Refusal;
@@ -47,21 +48,31 @@ fn value_of(word: &[u8]) -> u32
     value as u32
 }
 
-// A word from the place p up to e: all letters, or all digits; a mixed word is refused.
-fn word_at(whole: &[u8], p: usize, e: usize) -> Found
-    requires { ⌜ e ≡ p + length (now whole) ⌝ }
-    ensures { λ r. ⌜ r ≡ coded (word p (now (whole .entry))) ⌝ }
+// A word that begins with a letter at p: all letters; one with a digit in it is mixed, and refused.
+fn letters_at(text: &[u8], p: usize) -> Found
+    requires { ⌜ begins letter (drop p (now text)) ≡ true ⌝ }
+    ensures { λ r. ⌜ r ≡ coded (word p (run letter-or-digit (drop p (now (text .entry))))) ⌝ }
 {
-    if base::is_all(whole, Such::Letter) {
+    let e = base::run_end(text, p, Such::Letter);
+    if !base::is_at(text, e, Such::Digit) {
         return Found::Is(Lexeme {
-            kind: lexeme::letter_word(whole),
+            kind: lexeme::letter_word(&text[p..e]),
             place: p,
             end: e,
         });
     }
-    if base::is_all(whole, Such::Digit) {
+    Found::Refused(Refusal::NoLexeme, p)
+}
+
+// A word that begins with a digit at p: all digits; one with a letter in it is mixed, and refused.
+fn digits_at(text: &[u8], p: usize) -> Found
+    requires { ⌜ begins digit (drop p (now text)) ≡ true ⌝ }
+    ensures { λ r. ⌜ r ≡ coded (word p (run letter-or-digit (drop p (now (text .entry))))) ⌝ }
+{
+    let e = base::run_end(text, p, Such::Digit);
+    if !base::is_at(text, e, Such::Letter) {
         return Found::Is(Lexeme {
-            kind: Kind::Literal(value_of(whole)),
+            kind: Kind::Literal(value_of(&text[p..e])),
             place: p,
             end: e,
         });
@@ -132,11 +143,21 @@ fn symbol_at(b: u8, p: usize, q: usize) -> Found
     }
 }
 
+// The place after the separators that stand at a place, where most often there is none.
+fn skip(text: &[u8], at: usize) -> usize
+    ensures { λ r. ⌜ r ≡ at + length (run separator (drop at (now (text .entry)))) ⌝ }
+{
+    if !base::is_at(text, at, Such::Separator) {
+        return at;
+    }
+    base::run_end(text, at, Such::Separator)
+}
+
 // The first lexeme at or after a place; where there is none, the end.
 pub fn next(text: &[u8], at: usize) -> Found
     ensures { λ r. ⌜ r ≡ coded (next (now (text .entry)) at) ⌝ }
 {
-    let p = base::run_end(text, at, Such::Separator);
+    let p = skip(text, at);
     if text.len() <= p {
         return Found::Is(Lexeme {
             kind: Kind::Fixed(fixed::END),
@@ -145,9 +166,11 @@ pub fn next(text: &[u8], at: usize) -> Found
         });
     }
     let b = text[p];
-    if base::is_such(Such::LetterOrDigit, b) {
-        let e = base::run_end(text, p, Such::LetterOrDigit);
-        return word_at(&text[p..e], p, e);
+    if base::is_such(Such::Letter, b) {
+        return letters_at(text, p);
+    }
+    if base::is_such(Such::Digit, b) {
+        return digits_at(text, p);
     }
     match b {
         b'"' => string_at(text, p),
