@@ -1,5 +1,5 @@
 -- How the readers of commands go on from what they called: the lexeme that ends a command, an assignment, the first lexeme of a command, the condition before a body, the commands of a block. Assumes nothing.
-use mathlib.Core.Path.{_≡_, refl, sym, ap, subst}
+use mathlib.Core.Path.{_≡_, refl, sym, ap, subst, _∙_}
 use mathlib.Core.List.{List, [], _∷_}
 use mathlib.Core.Bool.{Bool, true, false}
 use mathlib.Core.Logic.{inl, inr}
@@ -35,7 +35,7 @@ use Rattle.compiler.proofs.Looked.{quoted-of, going}
 use Rattle.compiler.proofs.Names.{noted-is, declared-is, lays-declare, lays-input, lays-assign, lays-block, ready-noted}
 use Rattle.compiler.proofs.Passes.{expression-way, condition-way, lost-first}
 use Rattle.compiler.proofs.Reading.{Way, Barred, Leads, Met}
-use Rattle.compiler.proofs.Replies.{Got, done, handed-on, ready-past, counts-got}
+use Rattle.compiler.proofs.Replies.{Got, done, Said, said-got, handed-on, ready-past, counts-got}
 
 -- ---- a lexeme of another kind
 
@@ -242,11 +242,8 @@ module _ {again : Bool} {text names names₂ : List ℕ} {table table₂ : List 
 
 -- ---- the commands of a block
 
-pub so-far-one : {text names names′ : List ℕ} {table table′ : List ℤ} {w v : Walk} {allow : ℕ} {g : Gives} → Got command-way text names table w allow names′ table′ v g → Got block-so-far text names table w (suc allow) names′ table′ v g
-so-far-one g = record { what = single (g .what); passed = block-first _ _ _ .passes (g .what) (g .passed); laid = lays-single (g .laid) }
-
 module _ {text names names′ : List ℕ} {table table′ : List ℤ} {w v : Walk} {allow : ℕ} {g : Gives} where
-  pub so-far-more : Got block-so-far text names table w (suc allow) names′ table′ v g → (fixed-number (v .next .kind) ≡ code-of close-brace → ⊥) → {names₂ : List ℕ} {table₂ : List ℤ} {y : Walk} {h : Gives} → Got command-way text names′ table′ v allow names₂ table₂ y h →
+  so-far-more : Got block-so-far text names table w (suc allow) names′ table′ v g → (fixed-number (v .next .kind) ≡ code-of close-brace → ⊥) → {names₂ : List ℕ} {table₂ : List ℤ} {y : Walk} {h : Gives} → Got command-way text names′ table′ v allow names₂ table₂ y h →
       Got block-so-far text names table w (suc allow) names₂ table₂ y (record { need = max (g .need) (h .need) })
   so-far-more b n q = record { what = then (b .what) (q .what); passed = block-more _ (b .what) (b .passed) n .passes (q .what) (q .passed); laid = lays-then (b .laid) (q .laid) }
 
@@ -263,8 +260,14 @@ module _ {text names names′ : List ℕ} {table table′ : List ℤ} {w v : Wal
       })
       (λ why p e. block-lost allow (b .what) (b .passed) n e) r a
 
--- the rounds of its loop lead to the walk `done`, whatever was read before the loop
-pub record More (text : List ℕ) (allow : ℕ) (names₀ : List ℕ) (table₀ : List ℤ) (done₀ : Walk) (need₀ : ℕ) (names : List ℕ) (table : List ℤ) (done : Walk) (need : ℕ) : Type 0 where
+-- the rounds of its loop lead to the answer, whatever was read before the loop
+pub record More (text : List ℕ) (allow : ℕ) (names₀ : List ℕ) (table₀ : List ℤ) (so-far₀ : Read) (names : List ℕ) (table : List ℤ) (so-far : Read) : Type 0 where
   pub count-names : length names ≡ length names₀
   pub count-table : length table ≡ length table₀
-  pub on : (before : List ℕ) (before-table : List ℤ) (w : Walk) → Got block-so-far text before before-table w (suc allow) names₀ table₀ done₀ (record { need = need₀ }) → Got block-so-far text before before-table w (suc allow) names table done (record { need = need })
+  pub on : (before : List ℕ) (before-table : List ℤ) (w : Walk) → Said block-so-far text before before-table w (suc allow) so-far₀ names₀ table₀ → Said block-so-far text before before-table w (suc allow) so-far names table
+
+-- one round more
+pub more-on : {text names₀ names names₂ : List ℕ} {table₀ table table₂ : List ℤ} {allow : ℕ} {so-far₀ so-far : Read} {v y : Walk} {g h : Gives} → so-far ≡ Done v g → More text allow names₀ table₀ so-far₀ names table so-far → (fixed-number (v .next .kind) ≡ code-of close-brace → ⊥) →
+    Got command-way text names table v allow names₂ table₂ y h → length names₂ ≡ length names → length table₂ ≡ length table → More text allow names₀ table₀ so-far₀ names₂ table₂ (Done y (record { need = max (g .need) (h .need) }))
+unfolding Said
+more-on is m n q a b = record { count-names = a ∙ m .count-names; count-table = b ∙ m .count-table; on = λ before before-table w s. so-far-more (said-got block-so-far _ _ _ _ _ _ _ is (m .on before before-table w s)) n q }

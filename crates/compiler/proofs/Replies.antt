@@ -18,7 +18,7 @@ use Rattle.compiler.specs.declared.walk.Walk.{Walk}
 use Rattle.compiler.specs.declared.walk.Gives.{Gives}
 use Rattle.compiler.specs.declared.walk.Read.{Read}
 use Rattle.compiler.specs.declared.walk.Read.the-variants.{Done, Refused}
-use Rattle.compiler.specs.Steps.{moved-to, one-instruction, operation-number, Follows, Past, Advances, Expects}
+use Rattle.compiler.specs.Steps.{moved-to, one-instruction, joined-walk, operation-number, Follows, Past, Advances, Expects}
 use Rattle.compiler.specs.Tables.{put}
 use Rattle.compiler.specs.Walks.{Lays, Ready, Reads}
 use Rattle.compiler.proofs.Emits.{length-put}
@@ -52,6 +52,37 @@ module _ {k : Kind} (way : Way k (Sen Name k)) (text names : List ℕ) (table : 
   pub stopped : Barred way text (w .next) allow why p → Reads k (way .start) (way .stop) text names table w allow r names′ table′
   unfolding Reads
   stopped q = rw is q
+
+-- what an answer says of a construct that was begun: it was read and written so far, or refused
+unfoldable pub Said : {k j : Kind} → Way k (Sen Name j) → List ℕ → List ℕ → List ℤ → Walk → ℕ → Read → List ℕ → List ℤ → Type 0
+Said way text names table w allow (Done v g) names′ table′ = Got way text names table w allow names′ table′ v g
+Said way text names table w allow (Refused why p) names′ table′ = Barred way text (w .next) allow why p
+
+module _ {k j : Kind} (way : Way k (Sen Name j)) (text names : List ℕ) (table : List ℤ) (w : Walk) (allow : ℕ) {r : Read} (names′ : List ℕ) (table′ : List ℤ) where
+  pub said-got : {v : Walk} {g : Gives} → r ≡ Done v g → Said way text names table w allow r names′ table′ → Got way text names table w allow names′ table′ v g
+  unfolding Said
+  said-got e q = rw e at q
+
+  pub said-barred : {why : Refusal} {p : ℕ} → r ≡ Refused why p → Said way text names table w allow r names′ table′ → Barred way text (w .next) allow why p
+  unfolding Said
+  said-barred e q = rw e at q
+
+pub said : {k : Kind} (way : Way k (Sen Name k)) (text names : List ℕ) (table : List ℤ) (w : Walk) (allow : ℕ) (r : Read) (names′ : List ℕ) (table′ : List ℤ) → Reads k (way .start) (way .stop) text names table w allow r names′ table′ → Said way text names table w allow r names′ table′
+unfolding Said Reads
+said way text names table w allow (Done v g) names′ table′ q = record { what = q .0; passed = q .1; laid = q .2 }
+said way text names table w allow (Refused why p) names′ table′ q = q
+
+-- a construct that begins with another is begun by it
+pub said-begun : {k j i : Kind} {way : Way k (Sen Name j)} {way′ : Way i (Sen Name i)} {makes : Sen Name i → Sen Name j} {text names names′ : List ℕ} {table table′ : List ℤ} {w : Walk} {allow allow′ : ℕ} → Leads text (w .next) (w .next) allow way allow′ way′ makes →
+    ((x : Sen Name i) (v : Walk) (g : Gives) → Lays text names table w x names′ table′ v g → Lays text names table w (makes x) names′ table′ v g) → (r : Read) → Reads i (way′ .start) (way′ .stop) text names table w allow′ r names′ table′ → Said way text names table w allow r names′ table′
+unfolding Said Reads
+said-begun {makes} l f (Done v g) q = record { what = makes (q .0); passed = l .passes (q .0) (q .1); laid = f (q .0) v g (q .2) }
+said-begun l f (Refused why p) q = l .refuses why p q
+
+-- how far an answer leads
+abbrev pub read-to : Read → ℕ
+read-to (Done v g) = v .next .place
+read-to (Refused why p) = 0
 
 -- the whole answer is the caller's
 module _ {k k′ : Kind} {way : Way k (Sen Name k)} {way′ : Way k′ (Sen Name k′)} {makes : Sen Name k′ → Sen Name k} {text names names′ : List ℕ} {table table′ : List ℤ} {w u : Walk} {allow allow′ : ℕ} where
@@ -149,14 +180,15 @@ module _ {A : Type 0} {k k′ k″ : Kind} {sort : Sort A} {way : Way k (Sen Nam
 
 -- ---- the loop of a Term or an Expression
 
--- the rounds so far lead to the walk `left`, whatever was read before the loop
-pub record Rounds {k : Kind} (way : Way k (Sen Name k)) (text names : List ℕ) (table₀ : List ℤ) (allow : ℕ) (left₀ : Walk) (need₀ : ℕ) (table : List ℤ) (left : Walk) (need : ℕ) : Type 0 where
+-- the rounds so far lead to the answer, whatever was read before the loop
+pub record Rounds {k : Kind} (way : Way k (Sen Name k)) (text names : List ℕ) (table₀ : List ℤ) (allow : ℕ) (so-far₀ : Read) (table : List ℤ) (so-far : Read) : Type 0 where
   pub count : length table ≡ length table₀
-  pub on : (before : List ℤ) (w : Walk) → Got way text names before w allow names table₀ left₀ (record { need = need₀ }) → Got way text names before w allow names table left (record { need = need })
+  pub on : (before : List ℤ) (w : Walk) → Said way text names before w allow so-far₀ names table₀ → Said way text names before w allow so-far names table
 
 module _ {A : Type 0} {k k′ : Kind} {sort : Sort A} {way : Way k (Sen Name k)} {way′ : Way k′ (Sen Name k′)} {make : Sen Name k → A → Sen Name k′ → Sen Name k} (j : Joins sort way way′ way make)
-    {text names : List ℕ} {table₀ table₁ : List ℤ} {allow need₀ need : ℕ} {left₀ left : Walk} (so-far : Rounds way text names table₀ allow left₀ need₀ table₁ left need) {f : ℕ} (number : f ≡ fixed-number (left .next .kind)) (test : sort .test f ≡ true) where
+    {text names : List ℕ} {table₀ table₁ : List ℤ} {allow : ℕ} {so-far₀ so-far : Read} {left : Walk} {g : Gives} (is : so-far ≡ Done left g) (rounds : Rounds way text names table₀ allow so-far₀ table₁ so-far) {f : ℕ} (number : f ≡ fixed-number (left .next .kind)) (test : sort .test f ≡ true) where
   -- one round more
   pub round-on : {y : Walk} → Past text left y → {table₂ : List ℤ} {z : Walk} {h : Gives} → Got way′ text names table₁ y allow names table₂ z h → length table₂ ≡ length table₁ →
-      Rounds way text names table₀ allow left₀ need₀ (put table₂ (z .code) (operation-number f ∷ pos 0 ∷ [])) (one-instruction z) (max need (1 + h .need))
-  round-on passed right e = record { count = length-put _ _ _ ∙ e ∙ so-far .count; on = λ before w g. right-joined j (so-far .on before w g) number test passed right }
+      Rounds way text names table₀ allow so-far₀ (put table₂ (z .code) (operation-number f ∷ pos 0 ∷ [])) (joined-walk g z h)
+  unfolding Said joined-walk
+  round-on passed right e = record { count = length-put _ _ _ ∙ e ∙ rounds .count; on = λ before w s. right-joined j (said-got way _ _ _ _ _ _ _ is (rounds .on before w s)) number test passed right }

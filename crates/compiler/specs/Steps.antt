@@ -3,7 +3,7 @@ use mathlib.Core.Path.{_≡_}
 use mathlib.Core.List.{List, [], _∷_}
 use mathlib.Core.Bool.{Bool, true, false, cond, _||_}
 use mathlib.Core.Logic.{_⊎_}
-use Prim.Native.Nat.{ℕ, _+_, _≤_}
+use Prim.Native.Nat.{ℕ, _+_, _≤_, max}
 use Prim.Native.Char.{code}
 use lib.Dec.{ltb, eqb}
 use lib.IntN.{ℤ, pos}
@@ -23,6 +23,7 @@ use Rattle.names.specs.Held.{counts, room, visible-in, latest}
 use Rattle.instruction.specs.Numbers.{plus, minus, times, divide, equals, smaller, greater}
 use Rattle.instruction.specs.Instructions.{number}
 use Rattle.compiler.specs.declared.walk.Walk.{Walk}
+use Rattle.compiler.specs.declared.walk.Gives.{Gives}
 use Rattle.compiler.specs.declared.walk.Fault.{Fault}
 use Rattle.compiler.specs.declared.walk.Fault.the-variants.{Nothing, Is}
 use Rattle.compiler.specs.declared.walk.Read.{Read}
@@ -114,6 +115,10 @@ operation-number b =
     (cond (eqb b (code "=")) (number equals)
     (cond (eqb b (code "<")) (number smaller)
     (number greater))))))
+
+-- after both sides: one instruction more, and the need of both
+unfoldable pub joined-walk : Gives → Walk → Gives → Read
+joined-walk left w right = Done (one-instruction w) (record { need = max (left .need) (1 + right .need) })
 
 -- ---- names
 

@@ -252,22 +252,24 @@ fn block(allow: usize, text: &[u8], names: &mut [usize], table: &mut [i32], w: W
 {
     let before = names::counts(names);
     names::open(names);
-    let first = command(allow, text, names, table, w);
-    let Read::Done(x, g) = first else {
-        return first;
-    };
-    let mut done = x;
-    let mut need = g.need;
+    let mut so_far = command(allow, text, names, table, w);
     loop {
+        let Read::Done(done, g) = so_far else {
+            return so_far;
+        };
         if walk::fixed_ahead(done) == b'}' {
             names::close(names, before);
-            return walk::advance(text, done, need);
+            return walk::advance(text, done, g.need);
         }
         let r = command(allow, text, names, table, done);
         let Read::Done(y, h) = r else {
             return r;
         };
-        done = y;
-        need = walk::larger(need, h.need);
+        so_far = Read::Done(
+            y,
+            Gives {
+                need: walk::larger(g.need, h.need),
+            },
+        );
     }
 }

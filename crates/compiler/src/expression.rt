@@ -1,7 +1,11 @@
 // Expressions and conditions: one walk reads and translates. Repetition is by loops; only brackets and NOT recurse.
 ghost use mathlib.Core.Path.{_≡_};
-ghost use Prim.Native.Nat.{suc};
+ghost use mathlib.Core.List.{[], _∷_};
+ghost use Prim.Native.Nat.{suc, _<_};
+ghost use lib.IntN.{pos};
 ghost use Rattle.lexeme.specs.Coded.{fixed-number};
+ghost use Rattle.compiler.specs.Steps.{joined-walk, operation-number};
+ghost use Rattle.compiler.specs.Tables.{put};
 ghost use Rattle.compiler.specs.Walks.{Ready, Reads-factor, Reads-term, Reads-first-term, Reads-expression, Reads-condition, Reads-comparison};
 use crate::naming;
 use crate::operator;
@@ -60,20 +64,31 @@ fn bracket(allow: usize, text: &[u8], names: &[usize], table: &mut [i32], w: Wal
     walk::expect(text, y, b')', g.need)
 }
 
+// After both sides of the operator or relation f: its operation, and the need of both.
+fn joined(table: &mut [i32], f: u8, left: Gives, w: Walk, right: Gives) -> Read
+    requires { ⌜ (w .code < 10000000) × (right .need < 10000000) ⌝ }
+    ensures { λ r. ⌜ r ≡ joined-walk left w right ⌝ }
+    ensures { λ _. ⌜ now (table .exit) ≡ put (now (table .entry)) (w .code) (operation-number f ∷ pos 0 ∷ []) ⌝ }
+{
+    let need = walk::larger(left.need, 1 + right.need);
+    Read::Done(
+        walk::emitted(table, w, operator::operation(f), 0),
+        Gives { need: need },
+    )
+}
+
 fn term(allow: usize, text: &[u8], names: &[usize], table: &mut [i32], w: Walk) -> Read
     requires { ⌜ Ready (now text) (now names) w allow ⌝ }
     ensures { λ r. ⌜ Reads-term (now (text .entry)) (now (names .entry)) (now (table .entry)) w allow r (now (names .entry)) (now (table .exit)) ⌝ }
 {
-    let first = factor(allow, text, names, table, w);
-    let Read::Done(x, g) = first else {
-        return first;
-    };
-    let mut left = x;
-    let mut need = g.need;
+    let mut so_far = factor(allow, text, names, table, w);
     loop {
+        let Read::Done(left, g) = so_far else {
+            return so_far;
+        };
         let f = walk::fixed_ahead(left);
         if !operator::is_mul(f) {
-            return Read::Done(left, Gives { need: need });
+            return so_far;
         }
         let a = walk::advance(text, left, 0);
         let Read::Done(y, _) = a else {
@@ -83,8 +98,7 @@ fn term(allow: usize, text: &[u8], names: &[usize], table: &mut [i32], w: Walk) 
         let Read::Done(z, h) = r else {
             return r;
         };
-        left = walk::emitted(table, z, operator::operation(f), 0);
-        need = walk::larger(need, 1 + h.need);
+        so_far = joined(table, f, g, z, h);
     }
 }
 
@@ -115,16 +129,14 @@ pub fn expression(allow: usize, text: &[u8], names: &[usize], table: &mut [i32],
     requires { ⌜ Ready (now text) (now names) w allow ⌝ }
     ensures { λ r. ⌜ Reads-expression (now (text .entry)) (now (names .entry)) (now (table .entry)) w allow r (now (names .entry)) (now (table .exit)) ⌝ }
 {
-    let first = first_term(allow, text, names, table, w);
-    let Read::Done(x, g) = first else {
-        return first;
-    };
-    let mut left = x;
-    let mut need = g.need;
+    let mut so_far = first_term(allow, text, names, table, w);
     loop {
+        let Read::Done(left, g) = so_far else {
+            return so_far;
+        };
         let f = walk::fixed_ahead(left);
         if !operator::is_sign(f) {
-            return Read::Done(left, Gives { need: need });
+            return so_far;
         }
         let a = walk::advance(text, left, 0);
         let Read::Done(y, _) = a else {
@@ -134,8 +146,7 @@ pub fn expression(allow: usize, text: &[u8], names: &[usize], table: &mut [i32],
         let Read::Done(z, h) = r else {
             return r;
         };
-        left = walk::emitted(table, z, operator::operation(f), 0);
-        need = walk::larger(need, 1 + h.need);
+        so_far = joined(table, f, g, z, h);
     }
 }
 
@@ -183,9 +194,5 @@ fn comparison(allow: usize, text: &[u8], names: &[usize], table: &mut [i32], w: 
     let Read::Done(z, h) = right else {
         return right;
     };
-    let need = walk::larger(g.need, 1 + h.need);
-    Read::Done(
-        walk::emitted(table, z, operator::operation(f), 0),
-        Gives { need: need },
-    )
+    joined(table, f, g, z, h)
 }

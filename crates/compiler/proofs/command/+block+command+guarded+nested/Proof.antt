@@ -12,12 +12,13 @@ use Rattle.lexeme.specs.Coded.{code-of, fixed-number}
 use Rattle.names.specs.Held.{opened-in}
 use Rattle.compiler.specs.Steps.{moved-to, one-instruction, Expects, before-body}
 use Rattle.compiler.specs.Walks.{First, Reads, want-nested}
-use Rattle.compiler.proofs.Bodies.{lost-ahead, crossed, ready-first, reads-begun, ready-inside, Headed, head-small, ready-headed, body-leads, Bodied, body-small, end-small, guarded-read, so-far-one, so-far-more, so-far-closed, More}
-use Rattle.compiler.proofs.Commands.{command-way, guarded-way, block-so-far, guarded-refused, no-body, block-first, block-more, Begins, begins-nested, too-deep-begun}
+use Rattle.compiler.proofs.Bodies.{lost-ahead, crossed, ready-first, reads-begun, ready-inside, Headed, head-small, ready-headed, body-leads, Bodied, body-small, end-small, guarded-read, so-far-closed, More, more-on}
+use Rattle.compiler.proofs.Commands.{command-way, guarded-way, block-way, block-so-far, guarded-refused, no-body, block-first, block-more, Begins, begins-nested, too-deep-begun}
+use Rattle.compiler.proofs.Lays.{lays-single}
 use Rattle.compiler.proofs.Looked.{flag-off, flag-on}
 use Rattle.compiler.proofs.Names.{ready-opened}
 use Rattle.compiler.proofs.Passes.{condition-way}
-use Rattle.compiler.proofs.Replies.{Got, got, done, past, unread, code-fits, ready-got}
+use Rattle.compiler.proofs.Replies.{Got, got, done, Said, said-got, said-barred, said-begun, read-to, stopped, past, unread, code-fits, ready-got}
 use Rattle.compiler.proofs.Stores.{count-fits}
 use borrow.Fn.Kinds.{In}
 use borrow.Fn.PlainCycle.{Measures, is, falls, and}
@@ -99,53 +100,52 @@ abbrev nested-calls : ℕ → nested-lts.Claims
 nested-calls t = (block-below t, block.Post, guarded-below t, guarded.Post)
 
 abbrev block-Inv-loop : block-lts.InvT-loop
-block-Inv-loop allow text names₀ table₀ before done₀ need₀ names table done need = More text allow names₀ table₀ done₀ need₀ names table done need
+block-Inv-loop allow text names₀ table₀ before so-far₀ names table so-far = More text allow names₀ table₀ so-far₀ names table so-far
 
 abbrev block-μ-loop : block-lts.MeasureT-loop
-block-μ-loop allow text names₀ table₀ before done₀ need₀ names table done need = length text - done .next .place
+block-μ-loop allow text names₀ table₀ before so-far₀ names table so-far = length text - read-to so-far
 
 block-command-requires : (t : ℕ) → block-lts.Need-command-requires (block-calls t) (block-at t) block.Post block-Inv-loop block-μ-loop
 block-command-requires t c κs = (omega (arith, c .before .before .before .before .before .before .before .before .before .before .pre .0), rw (c .before .before .before .before .«open» .ensures) (ready-opened (c .before .before .before .before .before .before .before .before .before .before .pre .1)))
 
-block-returns : (t : ℕ) → block-lts.Need-returns (block-calls t) (block-at t) block.Post block-Inv-loop block-μ-loop
-unfolding Reads
-block-returns t c = rw (c .enum-told .given .1) (block-first _ _ _ .refuses _ _ (rw (c .enum-told .given .1) at (c .before .before .before .before .before .command .ensures)))
-
 block-loop-holds : (t : ℕ) → block-lts.Need-loop-holds (block-calls t) (block-at t) block.Post block-Inv-loop block-μ-loop
-block-loop-holds t c = record { count-names = refl; count-table = refl; on = λ before before-table w so-far. so-far }
+block-loop-holds t c = record { count-names = refl; count-table = refl; on = λ before before-table w s. s }
 
--- the commands read when the loop's test is reached
-block-read : (t : ℕ) (c : block-lts.At-loop (block-calls t) (block-at t) block.Post block-Inv-loop block-μ-loop) → let a = c .before .before .before .before .before .before .before .before .before .before .before .before .before .before .before .before .before .before .args in Got block-so-far (now (a .text)) (opened-in (now (a .names))) (now (a .table)) (a .w) (suc (a .allow)) (c .loop .names) (c .loop .table) (c .loop .done) (record { need = c .loop .need })
-block-read t c = c .loop .inv .on _ _ _ (so-far-one (got command-way (c .before .before .first .given .1) (rw (c .before .before .before .before .before .before .before .before .before .before .before .before .«open» .ensures) at (c .before .before .before .before .before .before .before .command .ensures))))
+-- the commands so far, when the loop begins a round
+block-said : (t : ℕ) (c : block-lts.At-loop (block-calls t) (block-at t) block.Post block-Inv-loop block-μ-loop) → let a = c .before .before .before .before .before .before .before .before .before .before .before .before .before .before .before .args in Said block-so-far (now (a .text)) (opened-in (now (a .names))) (now (a .table)) (a .w) (suc (a .allow)) (c .loop .so-far) (c .loop .names) (c .loop .table)
+block-said t c = c .loop .inv .on _ _ _ (said-begun (block-first _ _ _) (λ x v g. lays-single) _ (rw (c .before .before .before .before .before .before .before .before .before .«open» .ensures) at (c .before .before .before .before .command .ensures)))
+
+block-returns : (t : ℕ) → block-lts.Need-returns (block-calls t) (block-at t) block.Post block-Inv-loop block-μ-loop
+block-returns t c = stopped block-way _ _ _ _ _ _ _ (c .enum-told .given .1) (said-barred block-so-far _ _ _ _ _ _ _ (c .enum-told .given .1) (block-said t (c .before .before)))
+
+-- which were read
+block-read : (t : ℕ) (c : block-lts.After-so-far (block-calls t) (block-at t) block.Post block-Inv-loop block-μ-loop) → let a = c .before .before .before .before .before .before .before .before .before .before .before .before .before .before .before .before .before .args in Got block-so-far (now (a .text)) (opened-in (now (a .names))) (now (a .table)) (a .w) (suc (a .allow)) (c .before .before .loop .names) (c .before .before .loop .table) (c .so-far .given .0 .0) (c .so-far .given .0 .1 .0)
+block-read t c = said-got block-so-far _ _ _ _ _ _ _ (c .so-far .given .1) (block-said t (c .before .before))
 
 block-advance-requires : (t : ℕ) → block-lts.Need-advance-requires (block-calls t) (block-at t) block.Post block-Inv-loop block-μ-loop
-block-advance-requires t c κs = block-read t (c .before .before .before .before .before .before) .passed .stands .within
+block-advance-requires t c κs = block-read t (c .before .before .before .before .before .before .before) .passed .stands .within
 
 block-returns-2 : (t : ℕ) → block-lts.Need-returns-2 (block-calls t) (block-at t) block.Post block-Inv-loop block-μ-loop
 unfolding code-of
-block-returns-2 t c = rw (c .before .before .before .close .ensures, c .before .before .before .before .before .before .before .before .before .before .before .before .before .before .before .before .before .before .before .before .before .counts .ensures) (so-far-closed (c .before .before .before .before .before .before .before .before .before .before .before .before .before .before .before .before .before .before .before .before .before .before .before .before .before .pre .1) (block-read t (c .before .before .before .before .before .before .before)) (sym (c .before .before .before .before .before .before .fixed-ahead .ensures) ∙ c .before .before .before .before .before .if1 .taken) _ (c .advance .ensures))
+block-returns-2 t c = rw (c .before .before .before .close .ensures, c .before .before .before .before .before .before .before .before .before .before .before .before .before .before .before .before .before .before .before .before .before .counts .ensures) (so-far-closed (c .before .before .before .before .before .before .before .before .before .before .before .before .before .before .before .before .before .before .before .before .before .before .before .before .before .pre .1) (block-read t (c .before .before .before .before .before .before .before .before)) (sym (c .before .before .before .before .before .before .fixed-ahead .ensures) ∙ c .before .before .before .before .before .if1 .taken) _ (c .advance .ensures))
 
 block-command-requires-2 : (t : ℕ) → block-lts.Need-command-requires-2 (block-calls t) (block-at t) block.Post block-Inv-loop block-μ-loop
-block-command-requires-2 t c κs = (omega (arith, c .before .before .before .before .before .before .before .before .before .before .before .before .before .before .before .before .before .before .before .before .before .before .pre .0), ready-got (ready-opened (c .before .before .before .before .before .before .before .before .before .before .before .before .before .before .before .before .before .before .before .before .before .before .pre .1)) (block-read t (c .before .before .before .before)))
+block-command-requires-2 t c κs = (omega (arith, c .before .before .before .before .before .before .before .before .before .before .before .before .before .before .before .before .before .before .before .before .before .before .pre .0), ready-got (ready-opened (c .before .before .before .before .before .before .before .before .before .before .before .before .before .before .before .before .before .before .before .before .before .before .pre .1)) (block-read t (c .before .before .before .before .before)))
 
 block-returns-3 : (t : ℕ) → block-lts.Need-returns-3 (block-calls t) (block-at t) block.Post block-Inv-loop block-μ-loop
 unfolding Reads code-of
-block-returns-3 t c = rw (c .enum-told2 .given .1) (block-more _ _ (block-read t (c .before .before .before .before .before .before .before .before .before .before) .passed) (λ h. c .before .before .before .before .before .before .before .before .if1 .left (c .before .before .before .before .before .before .before .before .before .fixed-ahead .ensures ∙ h)) .refuses _ _ (rw (c .enum-told2 .given .1) at (c .before .before .before .before .before .command2 .ensures)))
+block-returns-3 t c = rw (c .enum-told2 .given .1) (block-more _ _ (block-read t (c .before .before .before .before .before .before .before .before .before .before .before) .passed) (λ h. c .before .before .before .before .before .before .before .before .if1 .left (c .before .before .before .before .before .before .before .before .before .fixed-ahead .ensures ∙ h)) .refuses _ _ (rw (c .enum-told2 .given .1) at (c .before .before .before .before .before .command2 .ensures)))
 
 -- one command more
-block-next : (t : ℕ) (c : block-lts.After-r (block-calls t) (block-at t) block.Post block-Inv-loop block-μ-loop) → let a = c .before .before .before .before .before .before .before .before .before .before .before .before .before .before .before .before .before .before .before .before .before .before .before .before .before .before .before .before .args in Got command-way (now (a .text)) (c .before .before .before .before .before .before .before .before .before .before .loop .names) (c .before .before .before .before .before .before .before .before .before .before .loop .table) (c .before .before .before .before .before .before .before .before .before .before .loop .done) (a .allow) (c .before .before .before .before .before .command2 .last .1 .1 .0) (c .before .before .before .before .before .command2 .last .1 .1 .1 .0) (c .r .given .0 .0) (c .r .given .0 .1 .0)
+block-next : (t : ℕ) (c : block-lts.After-r (block-calls t) (block-at t) block.Post block-Inv-loop block-μ-loop) → let a = c .before .before .before .before .before .before .before .before .before .before .before .before .before .before .before .before .before .before .before .before .before .before .before .before .before .before .before .before .args in Got command-way (now (a .text)) (c .before .before .before .before .before .before .before .before .before .before .before .before .before .loop .names) (c .before .before .before .before .before .before .before .before .before .before .before .before .before .loop .table) (c .before .before .before .before .before .before .before .before .before .before .before .so-far .given .0 .0) (a .allow) (c .before .before .before .before .before .command2 .last .1 .1 .0) (c .before .before .before .before .before .command2 .last .1 .1 .1 .0) (c .r .given .0 .0) (c .r .given .0 .1 .0)
 block-next t c = got command-way (c .r .given .1) (c .before .before .before .before .before .command2 .ensures)
 
 block-loop-less : (t : ℕ) → block-lts.Need-loop-less (block-calls t) (block-at t) block.Post block-Inv-loop block-μ-loop
-block-loop-less t c = let g = block-next t (c .before .before) in omega (arith, g .passed .later, g .passed .stands .order, g .passed .stands .within)
+block-loop-less t c = let g = block-next t (c .before .before) in rw (c .before .before .before .before .before .before .before .before .before .before .before .before .before .so-far .given .1) (omega (arith, g .passed .later, g .passed .stands .order, g .passed .stands .within))
 
 block-loop-again : (t : ℕ) → block-lts.Need-loop-again (block-calls t) (block-at t) block.Post block-Inv-loop block-μ-loop
 unfolding code-of
-block-loop-again t c = record {
-  count-names = c .before .before .before .before .before .before .before .command2 .kept .1 .1 .0 ∙ c .before .before .before .before .before .before .before .before .before .before .before .before .loop .inv .count-names;
-  count-table = c .before .before .before .before .before .before .before .command2 .kept .1 .1 .1 .0 ∙ c .before .before .before .before .before .before .before .before .before .before .before .before .loop .inv .count-table;
-  on = λ before before-table w so-far. rw (c .larger .ensures) (so-far-more (c .before .before .before .before .before .before .before .before .before .before .before .before .loop .inv .on before before-table w so-far) (λ h. c .before .before .before .before .before .before .before .before .before .before .if1 .left (c .before .before .before .before .before .before .before .before .before .before .before .fixed-ahead .ensures ∙ h)) (block-next t (c .before .before)));
-}
+block-loop-again t c = rw (c .larger .ensures) (more-on (c .before .before .before .before .before .before .before .before .before .before .before .before .before .so-far .given .1) (c .before .before .before .before .before .before .before .before .before .before .before .before .before .before .before .loop .inv) (λ h. c .before .before .before .before .before .before .before .before .before .before .if1 .left (c .before .before .before .before .before .before .before .before .before .before .before .fixed-ahead .ensures ∙ h)) (block-next t (c .before .before)) (c .before .before .before .before .before .before .before .command2 .kept .1 .1 .0) (c .before .before .before .before .before .before .before .command2 .kept .1 .1 .1 .0))
 
 command-advance-requires : (t : ℕ) → command-lts.Need-advance-requires (command-calls t) (command-at t) command.Post
 command-advance-requires t c κs = c .before .before .before .before .pre .1 .stands .within
@@ -269,12 +269,12 @@ pub +block+command+guarded+nested-spec : {M : Type 1} → statement M
     (λ c κs. search needs)
     (λ c κs. search needs)
     (block-command-requires t)
+    (block-loop-holds t)
     (λ c. search needs)
     (λ c. search needs)
     (λ c. search needs)
     (λ c. search needs)
     (block-returns t)
-    (block-loop-holds t)
     (λ c κs. search needs)
     (λ c κs. search needs)
     (block-advance-requires t)

@@ -24,7 +24,7 @@ use Rattle.compiler.specs.declared.walk.Walk.{Walk}
 use Rattle.compiler.specs.declared.walk.Gives.{Gives}
 use Rattle.compiler.specs.declared.walk.Read.{Read}
 use Rattle.compiler.specs.declared.walk.Read.the-variants.{Done, Refused}
-use Rattle.compiler.specs.Steps.{moved-to, one-instruction, noted-walk, cell-of, cell-number, operand-of, Past, Advances, Expects}
+use Rattle.compiler.specs.Steps.{moved-to, one-instruction, joined-walk, noted-walk, cell-of, cell-number, operand-of, Past, Advances, Expects}
 use Rattle.compiler.specs.Tables.{put}
 use Rattle.compiler.specs.Walks.{Reads, Reads-factor, Ready, Lays, name-of}
 use Rattle.compiler.proofs.Lays.{trail, lead, lays-literal, lays-bracket, lays-first, lays-unsigned, lays-signed-plus, lays-signed-minus}
@@ -32,7 +32,7 @@ use Rattle.compiler.proofs.Names.{noted-is, lays-variable}
 use Rattle.compiler.proofs.Looked.{flag-off, flag-on, going, literal-goes, name-goes, signs, Is-one, is-one}
 use Rattle.compiler.proofs.Reading.{met}
 use Rattle.compiler.proofs.Passes.{factor-way, term-so-far, term-way, first-term-way, expression-way, literal-factor, variable-factor, no-factor, bracket-too-deep, bracket-refused, bracket-closed, bracket-unclosed, term-first, term-whole, unsigned-leads, signed-leads, expression-whole, lost-first}
-use Rattle.compiler.proofs.Replies.{Got, got, done, barred, stopped, handed-on, past, gives-need, unread, expected, code-fits, ready-past, ready-got, counts-got, term-joins, expression-joins, right-lost, right-refused, right-later, Rounds, round-on}
+use Rattle.compiler.proofs.Replies.{Got, got, done, Said, said-got, said-barred, said, said-begun, read-to, barred, stopped, handed-on, past, gives-need, unread, expected, code-fits, ready-past, ready-got, counts-got, term-joins, expression-joins, right-lost, right-refused, right-later, Rounds, round-on}
 use Rattle.compiler.proofs.expression.bracket.Reads as bracket
 use Rattle.compiler.proofs.expression.bracket.Kinds as bracket-kinds
 use Rattle.compiler.proofs.expression.+bracket+expression+factor+first_term+term.Lts-bracket as bracket-lts
@@ -48,15 +48,14 @@ use Rattle.compiler.proofs.expression.+bracket+expression+factor+first_
 use Rattle.compiler.proofs.expression.term.Reads as term
 use Rattle.compiler.proofs.expression.term.Kinds as term-kinds
 use Rattle.compiler.proofs.expression.+bracket+expression+factor+first_term+term.Lts-term as term-lts
+use Rattle.compiler.proofs.expression.joined.Reads as joined-reads
 use Rattle.compiler.proofs.naming.used.Reads as used-reads
 use Rattle.compiler.proofs.operator.is_mul.Reads as is-mul-reads
 use Rattle.compiler.proofs.operator.is_sign.Reads as is-sign-reads
-use Rattle.compiler.proofs.operator.operation.Reads as operation-reads
 use Rattle.compiler.proofs.walk.advance.Reads as advance-reads
 use Rattle.compiler.proofs.walk.emitted.Reads as emitted-reads
 use Rattle.compiler.proofs.walk.expect.Reads as expect-reads
 use Rattle.compiler.proofs.walk.fixed_ahead.Reads as fixed-ahead-reads
-use Rattle.compiler.proofs.walk.larger.Reads as larger-reads
 use Rattle.compiler.proofs.walk.operand.Reads as operand-reads
 use Rattle.compiler.proofs.expression.+bracket+expression+factor+first_term+term.{
   statement,
@@ -138,10 +137,6 @@ bracket-read {text} {names} {table} {table′} {w} {x} {v} {g} allow ready h p b
           (rw (q .1) (trail (u .next) (omega (arith, b .passed .stands .order, m .follows .later)) (lays-bracket (lead (x .next) (omega (arith, ready .stands .order, p .follows .later)) l)))),
     )
 bracket-read {text} {v} {g} allow ready h p b (Refused why q) e = bracket-unclosed (ready .stands) allow h (p .follows) v (g .need) (b .what) (b .passed) why q e
-
--- a Term of one Factor so far
-first-factor : {text names : List ℕ} {table table′ : List ℤ} {w v : Walk} {allow : ℕ} {g : Gives} → Got factor-way text names table w allow names table′ v g → Got term-so-far text names table w allow names table′ v g
-first-factor {text} {w} {allow} b = record { what = S.first (b .what); passed = term-first text (w .next) allow .passes (b .what) (b .passed); laid = lays-first (b .laid) }
 
 -- the numbers of the signs
 plus-not-minus : number-of (sign plus) ≡ 45 → ⊥
@@ -239,7 +234,7 @@ abbrev bracket-calls : ℕ → bracket-lts.Claims
 bracket-calls t = (advance-reads.Asked, advance-reads.Learnt, expression-below t, expression.Post, expect-reads.Asked, expect-reads.Learnt)
 
 abbrev expression-calls : ℕ → expression-lts.Claims
-expression-calls t = (first-term-below t, first-term.Post, fixed-ahead-reads.Asked, fixed-ahead-reads.Learnt, is-sign-reads.Asked, is-sign-reads.Learnt, advance-reads.Asked, advance-reads.Learnt, term-below t, term.Post, operation-reads.Asked, operation-reads.Learnt, emitted-reads.Asked, emitted-reads.Learnt, larger-reads.Asked, larger-reads.Learnt)
+expression-calls t = (first-term-below t, first-term.Post, fixed-ahead-reads.Asked, fixed-ahead-reads.Learnt, is-sign-reads.Asked, is-sign-reads.Learnt, advance-reads.Asked, advance-reads.Learnt, term-below t, term.Post, joined-reads.Asked, joined-reads.Learnt)
 
 abbrev factor-calls : ℕ → factor-lts.Claims
 factor-calls t = (operand-reads.Asked, operand-reads.Learnt, emitted-reads.Asked, emitted-reads.Learnt, advance-reads.Asked, advance-reads.Learnt, used-reads.Asked, used-reads.Learnt, bracket-below t, bracket.Post)
@@ -248,7 +243,7 @@ abbrev first-term-calls : ℕ → first-term-lts.Claims
 first-term-calls t = (fixed-ahead-reads.Asked, fixed-ahead-reads.Learnt, is-sign-reads.Asked, is-sign-reads.Learnt, term-below t, term.Post, advance-reads.Asked, advance-reads.Learnt, emitted-reads.Asked, emitted-reads.Learnt)
 
 abbrev term-calls : ℕ → term-lts.Claims
-term-calls t = (factor-below t, factor.Post, fixed-ahead-reads.Asked, fixed-ahead-reads.Learnt, is-mul-reads.Asked, is-mul-reads.Learnt, advance-reads.Asked, advance-reads.Learnt, operation-reads.Asked, operation-reads.Learnt, emitted-reads.Asked, emitted-reads.Learnt, larger-reads.Asked, larger-reads.Learnt)
+term-calls t = (factor-below t, factor.Post, fixed-ahead-reads.Asked, fixed-ahead-reads.Learnt, is-mul-reads.Asked, is-mul-reads.Learnt, advance-reads.Asked, advance-reads.Learnt, joined-reads.Asked, joined-reads.Learnt)
 
 bracket-advance-requires : (t : ℕ) → bracket-lts.Need-advance-requires (bracket-calls t) (bracket-at t) bracket.Post
 bracket-advance-requires t c κs = c .before .before .pre .1 .0 .stands .within
@@ -272,49 +267,51 @@ unfolding code-of
 bracket-returns-3 t c = bracket-read _ (c .before .before .before .before .before .before .before .before .before .before .before .before .before .pre .1 .0) (c .before .before .before .before .before .before .before .before .before .before .before .before .before .pre .1 .1) (past _ _ _ (c .before .before .before .before .before .before .before .before .before .before .advance .ensures) (c .before .before .before .before .before .before .before .before .a .given .1)) (got expression-way (c .before .before .r .given .1) (c .before .before .before .before .before .expression .ensures)) _ (c .expect .ensures)
 
 abbrev expression-Inv-loop : expression-lts.InvT-loop
-expression-Inv-loop allow text names table₀ left₀ need₀ table left need = Rounds first-term-way text names table₀ allow left₀ need₀ table left need
+expression-Inv-loop allow text names table₀ so-far₀ table so-far = Rounds first-term-way text names table₀ allow so-far₀ table so-far
 
 abbrev expression-μ-loop : expression-lts.MeasureT-loop
-expression-μ-loop allow text names table₀ left₀ need₀ table left need = length text - left .next .place
-
-expression-returns : (t : ℕ) → expression-lts.Need-returns (expression-calls t) (expression-at t) expression.Post expression-Inv-loop expression-μ-loop
-unfolding Reads
-expression-returns t c = rw (c .enum-told .given .1) ((rw (c .enum-told .given .1) at (c .before .before .before .first-term .ensures)))
+expression-μ-loop allow text names table₀ so-far₀ table so-far = length text - read-to so-far
 
 expression-loop-holds : (t : ℕ) → expression-lts.Need-loop-holds (expression-calls t) (expression-at t) expression.Post expression-Inv-loop expression-μ-loop
-expression-loop-holds t c = record { count = refl; on = λ before w g. g }
+expression-loop-holds t c = record { count = refl; on = λ before w s. s }
 
--- the construct so far, in the loop
-expression-now : (t : ℕ) (c : expression-lts.At-loop (expression-calls t) (expression-at t) expression.Post expression-Inv-loop expression-μ-loop) → Got first-term-way (now (c .before .before .before .before .before .before .before .before .before .args .text)) (now (c .before .before .before .before .before .before .before .before .before .args .names)) (now (c .before .before .before .before .before .before .before .before .before .args .table)) (c .before .before .before .before .before .before .before .before .before .args .w) (c .before .before .before .before .before .before .before .before .before .args .allow) (now (c .before .before .before .before .before .before .before .before .before .args .names)) (c .loop .table) (c .loop .left) (record { need = c .loop .need })
-expression-now t c = c .loop .inv .on _ _ (got first-term-way (c .before .before .first .given .1) (c .before .before .before .before .before .first-term .ensures))
+-- the construct so far, when the loop begins a round
+expression-said : (t : ℕ) (c : expression-lts.At-loop (expression-calls t) (expression-at t) expression.Post expression-Inv-loop expression-μ-loop) → let a = c .before .before .before .before .before .before .args in Said first-term-way (now (a .text)) (now (a .names)) (now (a .table)) (a .w) (a .allow) (c .loop .so-far) (now (a .names)) (c .loop .table)
+expression-said t c = c .loop .inv .on _ _ (said first-term-way _ _ _ _ _ _ _ _ (c .before .before .first-term .ensures))
+
+expression-returns : (t : ℕ) → expression-lts.Need-returns (expression-calls t) (expression-at t) expression.Post expression-Inv-loop expression-μ-loop
+expression-returns t c = stopped expression-way _ _ _ _ _ _ _ (c .enum-told .given .1) (said-barred first-term-way _ _ _ _ _ _ _ (c .enum-told .given .1) (expression-said t (c .before .before)))
+
+-- which was read
+expression-now : (t : ℕ) (c : expression-lts.After-so-far (expression-calls t) (expression-at t) expression.Post expression-Inv-loop expression-μ-loop) → let a = c .before .before .before .before .before .before .before .before .args in Got first-term-way (now (a .text)) (now (a .names)) (now (a .table)) (a .w) (a .allow) (now (a .names)) (c .before .before .loop .table) (c .so-far .given .0 .0) (c .so-far .given .0 .1 .0)
+expression-now t c = said-got first-term-way _ _ _ _ _ _ _ (c .so-far .given .1) (expression-said t (c .before .before))
 
 expression-returns-2 : (t : ℕ) → expression-lts.Need-returns-2 (expression-calls t) (expression-at t) expression.Post expression-Inv-loop expression-μ-loop
-expression-returns-2 t c = let g = expression-now t (c .before .before .before) in done expression-way refl (record { what = g .what; passed = expression-whole _ (g .what) (g .passed) (ap is-sign (sym (c .before .before .fixed-ahead .ensures)) ∙ sym (c .before .is-sign .ensures) ∙ flag-off _ (c .if1 .taken)); laid = g .laid })
+expression-returns-2 t c = let g = expression-now t (c .before .before .before .before) in done expression-way refl (record { what = g .what; passed = expression-whole _ (g .what) (g .passed) (ap is-sign (sym (c .before .before .fixed-ahead .ensures)) ∙ sym (c .before .is-sign .ensures) ∙ flag-off _ (c .if1 .taken)); laid = g .laid })
 
 expression-advance-requires : (t : ℕ) → expression-lts.Need-advance-requires (expression-calls t) (expression-at t) expression.Post expression-Inv-loop expression-μ-loop
-expression-advance-requires t c κs = expression-now t (c .before .before .before) .passed .stands .within
+expression-advance-requires t c κs = expression-now t (c .before .before .before .before) .passed .stands .within
 
 expression-returns-3 : (t : ℕ) → expression-lts.Need-returns-3 (expression-calls t) (expression-at t) expression.Post expression-Inv-loop expression-μ-loop
-expression-returns-3 t c = stopped expression-way _ _ _ _ _ _ _ (c .enum-told2 .given .1) (right-lost expression-joins (expression-now t (c .before .before .before .before .before .before)) (c .before .before .before .before .before .fixed-ahead .ensures) (sym (c .before .before .before .before .is-sign .ensures) ∙ flag-on _ (c .before .before .before .if1 .left)) (unread _ _ _ (c .before .before .advance .ensures) (c .enum-told2 .given .1)))
+expression-returns-3 t c = stopped expression-way _ _ _ _ _ _ _ (c .enum-told2 .given .1) (right-lost expression-joins (expression-now t (c .before .before .before .before .before .before .before)) (c .before .before .before .before .before .fixed-ahead .ensures) (sym (c .before .before .before .before .is-sign .ensures) ∙ flag-on _ (c .before .before .before .if1 .left)) (unread _ _ _ (c .before .before .advance .ensures) (c .enum-told2 .given .1)))
 
 expression-term-requires : (t : ℕ) → expression-lts.Need-term-requires (expression-calls t) (expression-at t) expression.Post expression-Inv-loop expression-μ-loop
-expression-term-requires t c κs = (omega (arith, c .before .before .before .before .before .before .before .before .before .before .before .before .before .before .before .before .before .pre .0), (ready-past (ready-got (c .before .before .before .before .before .before .before .before .before .before .before .before .before .before .before .before .before .pre .1) (expression-now t (c .before .before .before .before .before .before .before .before))) _ (le-refl _) (past _ _ _ (c .before .before .before .before .advance .ensures) (c .before .before .a .given .1))))
+expression-term-requires t c κs = (omega (arith, c .before .before .before .before .before .before .before .before .before .before .before .before .before .before .before .before .before .pre .0), (ready-past (ready-got (c .before .before .before .before .before .before .before .before .before .before .before .before .before .before .before .before .before .pre .1) (expression-now t (c .before .before .before .before .before .before .before .before .before))) _ (le-refl _) (past _ _ _ (c .before .before .before .before .advance .ensures) (c .before .before .a .given .1))))
 
 expression-returns-4 : (t : ℕ) → expression-lts.Need-returns-4 (expression-calls t) (expression-at t) expression.Post expression-Inv-loop expression-μ-loop
-expression-returns-4 t c = stopped expression-way _ _ _ _ _ _ _ (c .enum-told3 .given .1) (right-refused expression-joins (expression-now t (c .before .before .before .before .before .before .before .before .before .before .before .before)) (c .before .before .before .before .before .before .before .before .before .before .before .fixed-ahead .ensures) (sym (c .before .before .before .before .before .before .before .before .before .before .is-sign .ensures) ∙ flag-on _ (c .before .before .before .before .before .before .before .before .before .if1 .left)) (past _ _ _ (c .before .before .before .before .before .before .before .before .advance .ensures) (c .before .before .before .before .before .before .a .given .1)) _ _ (barred term-way _ _ _ _ _ _ _ (c .enum-told3 .given .1) (c .before .before .before .term .ensures)))
+expression-returns-4 t c = stopped expression-way _ _ _ _ _ _ _ (c .enum-told3 .given .1) (right-refused expression-joins (expression-now t (c .before .before .before .before .before .before .before .before .before .before .before .before .before)) (c .before .before .before .before .before .before .before .before .before .before .before .fixed-ahead .ensures) (sym (c .before .before .before .before .before .before .before .before .before .before .is-sign .ensures) ∙ flag-on _ (c .before .before .before .before .before .before .before .before .before .if1 .left)) (past _ _ _ (c .before .before .before .before .before .before .before .before .advance .ensures) (c .before .before .before .before .before .before .a .given .1)) _ _ (barred term-way _ _ _ _ _ _ _ (c .enum-told3 .given .1) (c .before .before .before .term .ensures)))
 
-expression-emitted-requires : (t : ℕ) → expression-lts.Need-emitted-requires (expression-calls t) (expression-at t) expression.Post expression-Inv-loop expression-μ-loop
-expression-emitted-requires t c κs = counts-got (ready-past (ready-got (c .before .before .before .before .before .before .before .before .before .before .before .before .before .before .before .before .before .before .before .before .before .before .before .before .pre .1) (expression-now t (c .before .before .before .before .before .before .before .before .before .before .before .before .before .before .before))) _ (le-refl _) (past _ _ _ (c .before .before .before .before .before .before .before .before .before .before .before .advance .ensures) (c .before .before .before .before .before .before .before .before .before .a .given .1))) (got term-way (c .before .before .before .r .given .1) (c .before .before .before .before .before .before .term .ensures)) .0
-
-expression-add-larger : (t : ℕ) → expression-lts.Need-add-larger (expression-calls t) (expression-at t) expression.Post expression-Inv-loop expression-μ-loop
-expression-add-larger t c = omega (arith, counts-got (ready-past (ready-got (c .before .before .before .before .before .before .before .before .before .before .before .before .before .before .before .before .before .before .before .before .before .before .before .before .before .before .before .pre .1) (expression-now t (c .before .before .before .before .before .before .before .before .before .before .before .before .before .before .before .before .before .before))) _ (le-refl _) (past _ _ _ (c .before .before .before .before .before .before .before .before .before .before .before .before .before .before .advance .ensures) (c .before .before .before .before .before .before .before .before .before .before .before .before .a .given .1))) (got term-way (c .before .before .before .before .before .before .r .given .1) (c .before .before .before .before .before .before .before .before .before .term .ensures)) .1)
+expression-joined-requires : (t : ℕ) → expression-lts.Need-joined-requires (expression-calls t) (expression-at t) expression.Post expression-Inv-loop expression-μ-loop
+expression-joined-requires t c κs = counts-got (ready-past (ready-got (c .before .before .before .before .before .before .before .before .before .before .before .before .before .before .before .before .before .before .before .before .before .before .before .pre .1) (expression-now t (c .before .before .before .before .before .before .before .before .before .before .before .before .before .before .before))) _ (le-refl _) (past _ _ _ (c .before .before .before .before .before .before .before .before .before .before .advance .ensures) (c .before .before .before .before .before .before .before .before .a .given .1))) (got term-way (c .before .before .r .given .1) (c .before .before .before .before .before .term .ensures))
 
 expression-loop-less : (t : ℕ) → expression-lts.Need-loop-less (expression-calls t) (expression-at t) expression.Post expression-Inv-loop expression-μ-loop
-unfolding one-instruction
-expression-loop-less t c = rw (c .before .before .before .emitted .ensures .0) (omega (arith, right-later expression-joins (expression-now t (c .before .before .before .before .before .before .before .before .before .before .before .before .before .before .before .before .before .before .before)) (c .before .before .before .before .before .before .before .before .before .before .before .before .before .before .before .before .before .before .fixed-ahead .ensures) (sym (c .before .before .before .before .before .before .before .before .before .before .before .before .before .before .before .before .before .is-sign .ensures) ∙ flag-on _ (c .before .before .before .before .before .before .before .before .before .before .before .before .before .before .before .before .if1 .left)) (past _ _ _ (c .before .before .before .before .before .before .before .before .before .before .before .before .before .before .before .advance .ensures) (c .before .before .before .before .before .before .before .before .before .before .before .before .before .a .given .1)) (got term-way (c .before .before .before .before .before .before .before .r .given .1) (c .before .before .before .before .before .before .before .before .before .before .term .ensures)) .0, right-later expression-joins (expression-now t (c .before .before .before .before .before .before .before .before .before .before .before .before .before .before .before .before .before .before .before)) (c .before .before .before .before .before .before .before .before .before .before .before .before .before .before .before .before .before .before .fixed-ahead .ensures) (sym (c .before .before .before .before .before .before .before .before .before .before .before .before .before .before .before .before .before .is-sign .ensures) ∙ flag-on _ (c .before .before .before .before .before .before .before .before .before .before .before .before .before .before .before .before .if1 .left)) (past _ _ _ (c .before .before .before .before .before .before .before .before .before .before .before .before .before .before .before .advance .ensures) (c .before .before .before .before .before .before .before .before .before .before .before .before .before .a .given .1)) (got term-way (c .before .before .before .before .before .before .before .r .given .1) (c .before .before .before .before .before .before .before .before .before .before .term .ensures)) .1 .order, right-later expression-joins (expression-now t (c .before .before .before .before .before .before .before .before .before .before .before .before .before .before .before .before .before .before .before)) (c .before .before .before .before .before .before .before .before .before .before .before .before .before .before .before .before .before .before .fixed-ahead .ensures) (sym (c .before .before .before .before .before .before .before .before .before .before .before .before .before .before .before .before .before .is-sign .ensures) ∙ flag-on _ (c .before .before .before .before .before .before .before .before .before .before .before .before .before .before .before .before .if1 .left)) (past _ _ _ (c .before .before .before .before .before .before .before .before .before .before .before .before .before .before .before .advance .ensures) (c .before .before .before .before .before .before .before .before .before .before .before .before .before .a .given .1)) (got term-way (c .before .before .before .before .before .before .before .r .given .1) (c .before .before .before .before .before .before .before .before .before .before .term .ensures)) .1 .within))
+unfolding one-instruction joined-walk
+expression-loop-less t c =
+    let l = right-later expression-joins (expression-now t (c .before .before .before .before .before .before .before .before .before .before .before .before .before .before .before .before .before)) (c .before .before .before .before .before .before .before .before .before .before .before .before .before .before .before .fixed-ahead .ensures) (sym (c .before .before .before .before .before .before .before .before .before .before .before .before .before .before .is-sign .ensures) ∙ flag-on _ (c .before .before .before .before .before .before .before .before .before .before .before .before .before .if1 .left)) (past _ _ _ (c .before .before .before .before .before .before .before .before .before .before .before .before .advance .ensures) (c .before .before .before .before .before .before .before .before .before .before .a .given .1)) (got term-way (c .before .before .before .before .r .given .1) (c .before .before .before .before .before .before .before .term .ensures)) in
+    rw (c .before .joined .ensures .0, c .before .before .before .before .before .before .before .before .before .before .before .before .before .before .before .before .before .so-far .given .1) (omega (arith, l .0, l .1 .order, l .1 .within))
 
 expression-loop-again : (t : ℕ) → expression-lts.Need-loop-again (expression-calls t) (expression-at t) expression.Post expression-Inv-loop expression-μ-loop
-expression-loop-again t c = rw (c .before .before .before .emitted .ensures .0, c .before .before .before .emitted .ensures .1, toZ-ofZ (record { sfits = c .before .before .before .before .operation .ok }), c .before .before .before .before .operation .ensures, c .larger .ensures) (round-on expression-joins (c .before .before .before .before .before .before .before .before .before .before .before .before .before .before .before .before .before .before .before .loop .inv) (c .before .before .before .before .before .before .before .before .before .before .before .before .before .before .before .before .before .before .fixed-ahead .ensures) (sym (c .before .before .before .before .before .before .before .before .before .before .before .before .before .before .before .before .before .is-sign .ensures) ∙ flag-on _ (c .before .before .before .before .before .before .before .before .before .before .before .before .before .before .before .before .if1 .left)) (past _ _ _ (c .before .before .before .before .before .before .before .before .before .before .before .before .before .before .before .advance .ensures) (c .before .before .before .before .before .before .before .before .before .before .before .before .before .a .given .1)) (got term-way (c .before .before .before .before .before .before .before .r .given .1) (c .before .before .before .before .before .before .before .before .before .before .term .ensures)) (c .before .before .before .before .before .before .before .before .before .before .term .kept .1 .1 .1 .0))
+expression-loop-again t c = rw (c .before .joined .ensures .0, c .before .joined .ensures .1) (round-on expression-joins (c .before .before .before .before .before .before .before .before .before .before .before .before .before .before .before .before .before .so-far .given .1) (c .before .before .before .before .before .before .before .before .before .before .before .before .before .before .before .before .before .before .before .loop .inv) (c .before .before .before .before .before .before .before .before .before .before .before .before .before .before .before .fixed-ahead .ensures) (sym (c .before .before .before .before .before .before .before .before .before .before .before .before .before .before .is-sign .ensures) ∙ flag-on _ (c .before .before .before .before .before .before .before .before .before .before .before .before .before .if1 .left)) (past _ _ _ (c .before .before .before .before .before .before .before .before .before .before .before .before .advance .ensures) (c .before .before .before .before .before .before .before .before .before .before .a .given .1)) (got term-way (c .before .before .before .before .r .given .1) (c .before .before .before .before .before .before .before .term .ensures)) (c .before .before .before .before .before .before .before .term .kept .1 .1 .1 .0))
 
 factor-emitted-requires : (t : ℕ) → factor-lts.Need-emitted-requires (factor-calls t) (factor-at t) factor.Post
 factor-emitted-requires t c κs = code-fits (c .before .before .before .before .before .before .before .before .pre .1)
@@ -383,49 +380,51 @@ first-term-returns-5 : (t : ℕ) → first-term-lts.Need-returns-5 (first-term-c
 first-term-returns-5 t c = done first-term-way refl (plus-got (c .before .before .before .before .before .before .before .before .before .before .before .before .before .before .before .before .pre .1) (sign-ahead (c .before .before .before .before .before .before .before .before .before .before .before .before .before .before .before .before .pre .1) (c .before .before .before .before .before .before .before .before .before .before .before .before .before .fixed-ahead .ensures) (sym (c .before .before .before .before .before .before .before .before .before .before .before .before .is-sign .ensures) ∙ flag-on _ (c .before .before .before .before .before .before .before .before .before .before .before .if1 .left))) (past _ _ _ (c .before .before .before .before .before .before .before .before .before .before .advance .ensures) (c .before .before .before .before .before .before .before .before .a .given .1)) (got term-way (c .before .before .r .given .1) (c .before .before .before .before .before .term2 .ensures)) (λ z. c .if2 .left (c .before .before .before .before .before .before .before .before .before .before .before .before .before .fixed-ahead .ensures ∙ z)))
 
 abbrev term-Inv-loop : term-lts.InvT-loop
-term-Inv-loop allow text names table₀ left₀ need₀ table left need = Rounds term-so-far text names table₀ allow left₀ need₀ table left need
+term-Inv-loop allow text names table₀ so-far₀ table so-far = Rounds term-so-far text names table₀ allow so-far₀ table so-far
 
 abbrev term-μ-loop : term-lts.MeasureT-loop
-term-μ-loop allow text names table₀ left₀ need₀ table left need = length text - left .next .place
-
-term-returns : (t : ℕ) → term-lts.Need-returns (term-calls t) (term-at t) term.Post term-Inv-loop term-μ-loop
-unfolding Reads
-term-returns t c = rw (c .enum-told .given .1) (term-first _ _ _ .refuses _ _ (rw (c .enum-told .given .1) at (c .before .before .before .factor .ensures)))
+term-μ-loop allow text names table₀ so-far₀ table so-far = length text - read-to so-far
 
 term-loop-holds : (t : ℕ) → term-lts.Need-loop-holds (term-calls t) (term-at t) term.Post term-Inv-loop term-μ-loop
-term-loop-holds t c = record { count = refl; on = λ before w g. g }
+term-loop-holds t c = record { count = refl; on = λ before w s. s }
 
--- the construct so far, in the loop
-term-now : (t : ℕ) (c : term-lts.At-loop (term-calls t) (term-at t) term.Post term-Inv-loop term-μ-loop) → Got term-so-far (now (c .before .before .before .before .before .before .before .before .before .args .text)) (now (c .before .before .before .before .before .before .before .before .before .args .names)) (now (c .before .before .before .before .before .before .before .before .before .args .table)) (c .before .before .before .before .before .before .before .before .before .args .w) (c .before .before .before .before .before .before .before .before .before .args .allow) (now (c .before .before .before .before .before .before .before .before .before .args .names)) (c .loop .table) (c .loop .left) (record { need = c .loop .need })
-term-now t c = c .loop .inv .on _ _ (first-factor (got factor-way (c .before .before .first .given .1) (c .before .before .before .before .before .factor .ensures)))
+-- the construct so far, when the loop begins a round
+term-said : (t : ℕ) (c : term-lts.At-loop (term-calls t) (term-at t) term.Post term-Inv-loop term-μ-loop) → let a = c .before .before .before .before .before .before .args in Said term-so-far (now (a .text)) (now (a .names)) (now (a .table)) (a .w) (a .allow) (c .loop .so-far) (now (a .names)) (c .loop .table)
+term-said t c = c .loop .inv .on _ _ (said-begun (term-first _ _ _) (λ x v g. lays-first) _ (c .before .before .factor .ensures))
+
+term-returns : (t : ℕ) → term-lts.Need-returns (term-calls t) (term-at t) term.Post term-Inv-loop term-μ-loop
+term-returns t c = stopped term-way _ _ _ _ _ _ _ (c .enum-told .given .1) (said-barred term-so-far _ _ _ _ _ _ _ (c .enum-told .given .1) (term-said t (c .before .before)))
+
+-- which was read
+term-now : (t : ℕ) (c : term-lts.After-so-far (term-calls t) (term-at t) term.Post term-Inv-loop term-μ-loop) → let a = c .before .before .before .before .before .before .before .before .args in Got term-so-far (now (a .text)) (now (a .names)) (now (a .table)) (a .w) (a .allow) (now (a .names)) (c .before .before .loop .table) (c .so-far .given .0 .0) (c .so-far .given .0 .1 .0)
+term-now t c = said-got term-so-far _ _ _ _ _ _ _ (c .so-far .given .1) (term-said t (c .before .before))
 
 term-returns-2 : (t : ℕ) → term-lts.Need-returns-2 (term-calls t) (term-at t) term.Post term-Inv-loop term-μ-loop
-term-returns-2 t c = let g = term-now t (c .before .before .before) in done term-way refl (record { what = g .what; passed = term-whole _ (g .what) (g .passed) (ap is-mul (sym (c .before .before .fixed-ahead .ensures)) ∙ sym (c .before .is-mul .ensures) ∙ flag-off _ (c .if1 .taken)); laid = g .laid })
+term-returns-2 t c = let g = term-now t (c .before .before .before .before) in done term-way refl (record { what = g .what; passed = term-whole _ (g .what) (g .passed) (ap is-mul (sym (c .before .before .fixed-ahead .ensures)) ∙ sym (c .before .is-mul .ensures) ∙ flag-off _ (c .if1 .taken)); laid = g .laid })
 
 term-advance-requires : (t : ℕ) → term-lts.Need-advance-requires (term-calls t) (term-at t) term.Post term-Inv-loop term-μ-loop
-term-advance-requires t c κs = term-now t (c .before .before .before) .passed .stands .within
+term-advance-requires t c κs = term-now t (c .before .before .before .before) .passed .stands .within
 
 term-returns-3 : (t : ℕ) → term-lts.Need-returns-3 (term-calls t) (term-at t) term.Post term-Inv-loop term-μ-loop
-term-returns-3 t c = stopped term-way _ _ _ _ _ _ _ (c .enum-told2 .given .1) (right-lost term-joins (term-now t (c .before .before .before .before .before .before)) (c .before .before .before .before .before .fixed-ahead .ensures) (sym (c .before .before .before .before .is-mul .ensures) ∙ flag-on _ (c .before .before .before .if1 .left)) (unread _ _ _ (c .before .before .advance .ensures) (c .enum-told2 .given .1)))
+term-returns-3 t c = stopped term-way _ _ _ _ _ _ _ (c .enum-told2 .given .1) (right-lost term-joins (term-now t (c .before .before .before .before .before .before .before)) (c .before .before .before .before .before .fixed-ahead .ensures) (sym (c .before .before .before .before .is-mul .ensures) ∙ flag-on _ (c .before .before .before .if1 .left)) (unread _ _ _ (c .before .before .advance .ensures) (c .enum-told2 .given .1)))
 
 term-factor-requires-2 : (t : ℕ) → term-lts.Need-factor-requires-2 (term-calls t) (term-at t) term.Post term-Inv-loop term-μ-loop
-term-factor-requires-2 t c κs = (omega (arith, c .before .before .before .before .before .before .before .before .before .before .before .before .before .before .before .before .before .pre .0), (ready-past (ready-got (c .before .before .before .before .before .before .before .before .before .before .before .before .before .before .before .before .before .pre .1) (term-now t (c .before .before .before .before .before .before .before .before))) _ (le-refl _) (past _ _ _ (c .before .before .before .before .advance .ensures) (c .before .before .a .given .1))))
+term-factor-requires-2 t c κs = (omega (arith, c .before .before .before .before .before .before .before .before .before .before .before .before .before .before .before .before .before .pre .0), (ready-past (ready-got (c .before .before .before .before .before .before .before .before .before .before .before .before .before .before .before .before .before .pre .1) (term-now t (c .before .before .before .before .before .before .before .before .before))) _ (le-refl _) (past _ _ _ (c .before .before .before .before .advance .ensures) (c .before .before .a .given .1))))
 
 term-returns-4 : (t : ℕ) → term-lts.Need-returns-4 (term-calls t) (term-at t) term.Post term-Inv-loop term-μ-loop
-term-returns-4 t c = stopped term-way _ _ _ _ _ _ _ (c .enum-told3 .given .1) (right-refused term-joins (term-now t (c .before .before .before .before .before .before .before .before .before .before .before .before)) (c .before .before .before .before .before .before .before .before .before .before .before .fixed-ahead .ensures) (sym (c .before .before .before .before .before .before .before .before .before .before .is-mul .ensures) ∙ flag-on _ (c .before .before .before .before .before .before .before .before .before .if1 .left)) (past _ _ _ (c .before .before .before .before .before .before .before .before .advance .ensures) (c .before .before .before .before .before .before .a .given .1)) _ _ (barred factor-way _ _ _ _ _ _ _ (c .enum-told3 .given .1) (c .before .before .before .factor2 .ensures)))
+term-returns-4 t c = stopped term-way _ _ _ _ _ _ _ (c .enum-told3 .given .1) (right-refused term-joins (term-now t (c .before .before .before .before .before .before .before .before .before .before .before .before .before)) (c .before .before .before .before .before .before .before .before .before .before .before .fixed-ahead .ensures) (sym (c .before .before .before .before .before .before .before .before .before .before .is-mul .ensures) ∙ flag-on _ (c .before .before .before .before .before .before .before .before .before .if1 .left)) (past _ _ _ (c .before .before .before .before .before .before .before .before .advance .ensures) (c .before .before .before .before .before .before .a .given .1)) _ _ (barred factor-way _ _ _ _ _ _ _ (c .enum-told3 .given .1) (c .before .before .before .factor2 .ensures)))
 
-term-emitted-requires : (t : ℕ) → term-lts.Need-emitted-requires (term-calls t) (term-at t) term.Post term-Inv-loop term-μ-loop
-term-emitted-requires t c κs = counts-got (ready-past (ready-got (c .before .before .before .before .before .before .before .before .before .before .before .before .before .before .before .before .before .before .before .before .before .before .before .before .pre .1) (term-now t (c .before .before .before .before .before .before .before .before .before .before .before .before .before .before .before))) _ (le-refl _) (past _ _ _ (c .before .before .before .before .before .before .before .before .before .before .before .advance .ensures) (c .before .before .before .before .before .before .before .before .before .a .given .1))) (got factor-way (c .before .before .before .r .given .1) (c .before .before .before .before .before .before .factor2 .ensures)) .0
-
-term-add-larger : (t : ℕ) → term-lts.Need-add-larger (term-calls t) (term-at t) term.Post term-Inv-loop term-μ-loop
-term-add-larger t c = omega (arith, counts-got (ready-past (ready-got (c .before .before .before .before .before .before .before .before .before .before .before .before .before .before .before .before .before .before .before .before .before .before .before .before .before .before .before .pre .1) (term-now t (c .before .before .before .before .before .before .before .before .before .before .before .before .before .before .before .before .before .before))) _ (le-refl _) (past _ _ _ (c .before .before .before .before .before .before .before .before .before .before .before .before .before .before .advance .ensures) (c .before .before .before .before .before .before .before .before .before .before .before .before .a .given .1))) (got factor-way (c .before .before .before .before .before .before .r .given .1) (c .before .before .before .before .before .before .before .before .before .factor2 .ensures)) .1)
+term-joined-requires : (t : ℕ) → term-lts.Need-joined-requires (term-calls t) (term-at t) term.Post term-Inv-loop term-μ-loop
+term-joined-requires t c κs = counts-got (ready-past (ready-got (c .before .before .before .before .before .before .before .before .before .before .before .before .before .before .before .before .before .before .before .before .before .before .before .pre .1) (term-now t (c .before .before .before .before .before .before .before .before .before .before .before .before .before .before .before))) _ (le-refl _) (past _ _ _ (c .before .before .before .before .before .before .before .before .before .before .advance .ensures) (c .before .before .before .before .before .before .before .before .a .given .1))) (got factor-way (c .before .before .r .given .1) (c .before .before .before .before .before .factor2 .ensures))
 
 term-loop-less : (t : ℕ) → term-lts.Need-loop-less (term-calls t) (term-at t) term.Post term-Inv-loop term-μ-loop
-unfolding one-instruction
-term-loop-less t c = rw (c .before .before .before .emitted .ensures .0) (omega (arith, right-later term-joins (term-now t (c .before .before .before .before .before .before .before .before .before .before .before .before .before .before .before .before .before .before .before)) (c .before .before .before .before .before .before .before .before .before .before .before .before .before .before .before .before .before .before .fixed-ahead .ensures) (sym (c .before .before .before .before .before .before .before .before .before .before .before .before .before .before .before .before .before .is-mul .ensures) ∙ flag-on _ (c .before .before .before .before .before .before .before .before .before .before .before .before .before .before .before .before .if1 .left)) (past _ _ _ (c .before .before .before .before .before .before .before .before .before .before .before .before .before .before .before .advance .ensures) (c .before .before .before .before .before .before .before .before .before .before .before .before .before .a .given .1)) (got factor-way (c .before .before .before .before .before .before .before .r .given .1) (c .before .before .before .before .before .before .before .before .before .before .factor2 .ensures)) .0, right-later term-joins (term-now t (c .before .before .before .before .before .before .before .before .before .before .before .before .before .before .before .before .before .before .before)) (c .before .before .before .before .before .before .before .before .before .before .before .before .before .before .before .before .before .before .fixed-ahead .ensures) (sym (c .before .before .before .before .before .before .before .before .before .before .before .before .before .before .before .before .before .is-mul .ensures) ∙ flag-on _ (c .before .before .before .before .before .before .before .before .before .before .before .before .before .before .before .before .if1 .left)) (past _ _ _ (c .before .before .before .before .before .before .before .before .before .before .before .before .before .before .before .advance .ensures) (c .before .before .before .before .before .before .before .before .before .before .before .before .before .a .given .1)) (got factor-way (c .before .before .before .before .before .before .before .r .given .1) (c .before .before .before .before .before .before .before .before .before .before .factor2 .ensures)) .1 .order, right-later term-joins (term-now t (c .before .before .before .before .before .before .before .before .before .before .before .before .before .before .before .before .before .before .before)) (c .before .before .before .before .before .before .before .before .before .before .before .before .before .before .before .before .before .before .fixed-ahead .ensures) (sym (c .before .before .before .before .before .before .before .before .before .before .before .before .before .before .before .before .before .is-mul .ensures) ∙ flag-on _ (c .before .before .before .before .before .before .before .before .before .before .before .before .before .before .before .before .if1 .left)) (past _ _ _ (c .before .before .before .before .before .before .before .before .before .before .before .before .before .before .before .advance .ensures) (c .before .before .before .before .before .before .before .before .before .before .before .before .before .a .given .1)) (got factor-way (c .before .before .before .before .before .before .before .r .given .1) (c .before .before .before .before .before .before .before .before .before .before .factor2 .ensures)) .1 .within))
+unfolding one-instruction joined-walk
+term-loop-less t c =
+    let l = right-later term-joins (term-now t (c .before .before .before .before .before .before .before .before .before .before .before .before .before .before .before .before .before)) (c .before .before .before .before .before .before .before .before .before .before .before .before .before .before .before .fixed-ahead .ensures) (sym (c .before .before .before .before .before .before .before .before .before .before .before .before .before .before .is-mul .ensures) ∙ flag-on _ (c .before .before .before .before .before .before .before .before .before .before .before .before .before .if1 .left)) (past _ _ _ (c .before .before .before .before .before .before .before .before .before .before .before .before .advance .ensures) (c .before .before .before .before .before .before .before .before .before .before .a .given .1)) (got factor-way (c .before .before .before .before .r .given .1) (c .before .before .before .before .before .before .before .factor2 .ensures)) in
+    rw (c .before .joined .ensures .0, c .before .before .before .before .before .before .before .before .before .before .before .before .before .before .before .before .before .so-far .given .1) (omega (arith, l .0, l .1 .order, l .1 .within))
 
 term-loop-again : (t : ℕ) → term-lts.Need-loop-again (term-calls t) (term-at t) term.Post term-Inv-loop term-μ-loop
-term-loop-again t c = rw (c .before .before .before .emitted .ensures .0, c .before .before .before .emitted .ensures .1, toZ-ofZ (record { sfits = c .before .before .before .before .operation .ok }), c .before .before .before .before .operation .ensures, c .larger .ensures) (round-on term-joins (c .before .before .before .before .before .before .before .before .before .before .before .before .before .before .before .before .before .before .before .loop .inv) (c .before .before .before .before .before .before .before .before .before .before .before .before .before .before .before .before .before .before .fixed-ahead .ensures) (sym (c .before .before .before .before .before .before .before .before .before .before .before .before .before .before .before .before .before .is-mul .ensures) ∙ flag-on _ (c .before .before .before .before .before .before .before .before .before .before .before .before .before .before .before .before .if1 .left)) (past _ _ _ (c .before .before .before .before .before .before .before .before .before .before .before .before .before .before .before .advance .ensures) (c .before .before .before .before .before .before .before .before .before .before .before .before .before .a .given .1)) (got factor-way (c .before .before .before .before .before .before .before .r .given .1) (c .before .before .before .before .before .before .before .before .before .before .factor2 .ensures)) (c .before .before .before .before .before .before .before .before .before .before .factor2 .kept .1 .1 .1 .0))
+term-loop-again t c = rw (c .before .joined .ensures .0, c .before .joined .ensures .1) (round-on term-joins (c .before .before .before .before .before .before .before .before .before .before .before .before .before .before .before .before .before .so-far .given .1) (c .before .before .before .before .before .before .before .before .before .before .before .before .before .before .before .before .before .before .before .loop .inv) (c .before .before .before .before .before .before .before .before .before .before .before .before .before .before .before .fixed-ahead .ensures) (sym (c .before .before .before .before .before .before .before .before .before .before .before .before .before .before .is-mul .ensures) ∙ flag-on _ (c .before .before .before .before .before .before .before .before .before .before .before .before .before .if1 .left)) (past _ _ _ (c .before .before .before .before .before .before .before .before .before .before .before .before .advance .ensures) (c .before .before .before .before .before .before .before .before .before .before .a .given .1)) (got factor-way (c .before .before .before .before .r .given .1) (c .before .before .before .before .before .before .before .factor2 .ensures)) (c .before .before .before .before .before .before .before .factor2 .kept .1 .1 .1 .0))
 
 pub +bracket+expression+factor+first-term+term-spec : {M : Type 1} → statement M
 +bracket+expression+factor+first-term+term-spec =
@@ -448,11 +447,11 @@ pub +bracket+expression+factor+first-term+term-spec : {M : Type 1} → statement
     expression-Inv-loop
     expression-μ-loop
     (λ c κs. search needs)
+    (expression-loop-holds t)
     (λ c. search needs)
     (λ c. search needs)
     (λ c. search needs)
     (expression-returns t)
-    (expression-loop-holds t)
     (λ c κs. search needs)
     (λ c κs. search needs)
     (λ c. search needs)
@@ -467,10 +466,7 @@ pub +bracket+expression+factor+first-term+term-spec : {M : Type 1} → statement
     (λ c. search needs)
     (λ c. search needs)
     (expression-returns-4 t)
-    (λ c κs. search needs)
-    (expression-emitted-requires t)
-    (expression-add-larger t)
-    (λ c κs. search needs)
+    (expression-joined-requires t)
     (expression-loop-less t)
     (expression-loop-again t))
     (λ t. factor-lts.spec (factor-calls t) (factor-at t)
@@ -524,11 +520,11 @@ pub +bracket+expression+factor+first-term+term-spec : {M : Type 1} → statement
     term-Inv-loop
     term-μ-loop
     (λ c κs. search needs)
+    (term-loop-holds t)
     (λ c. search needs)
     (λ c. search needs)
     (λ c. search needs)
     (term-returns t)
-    (term-loop-holds t)
     (λ c κs. search needs)
     (λ c κs. search needs)
     (λ c. search needs)
@@ -543,9 +539,6 @@ pub +bracket+expression+factor+first-term+term-spec : {M : Type 1} → statement
     (λ c. search needs)
     (λ c. search needs)
     (term-returns-4 t)
-    (λ c κs. search needs)
-    (term-emitted-requires t)
-    (term-add-larger t)
-    (λ c κs. search needs)
+    (term-joined-requires t)
     (term-loop-less t)
     (term-loop-again t)

@@ -1,9 +1,8 @@
 -- `compiler::expression::comparison` meets its contract. Assumes nothing.
-use mathlib.Core.Path.{refl, sym, ap, _∙_}
+use mathlib.Core.Path.{sym, ap, _∙_}
 use native.Mathlib.Nat.{le-refl}
-use native.Mathlib.Omega.{arith}
-use mir.Facts.{toZ-ofZ}
 use Rattle.sentence.specs.Reader.{is-rel}
+use Rattle.compiler.specs.Steps.{joined-walk}
 use Rattle.compiler.specs.Walks.{Reads}
 use Rattle.compiler.proofs.Looked.{flag-off, flag-on}
 use Rattle.compiler.proofs.Passes.{expression-way, comparison-way, comparison-refused, no-relation}
@@ -31,17 +30,15 @@ expression-requires-2 c κs = (ready-past (ready-got (c .before .before .before 
 returns-4 : tie.Need-returns-4
 returns-4 c = stopped comparison-way _ _ _ _ _ _ _ (c .enum-told3 .given .1) (right-refused comparison-joins (got expression-way (c .before .before .before .before .before .before .before .before .before .before .before .before .before .left .given .1) (c .before .before .before .before .before .before .before .before .before .before .before .before .before .before .before .before .expression .ensures)) (c .before .before .before .before .before .before .before .before .before .before .before .fixed-ahead .ensures) (sym (c .before .before .before .before .before .before .before .before .before .before .is-rel .ensures) ∙ flag-on _ (c .before .before .before .before .before .before .before .before .before .if1 .left)) (past _ _ _ (c .before .before .before .before .before .before .before .before .advance .ensures) (c .before .before .before .before .before .before .a .given .1)) _ _ (barred expression-way _ _ _ _ _ _ _ (c .enum-told3 .given .1) (c .before .before .before .expression2 .ensures)))
 
-add-larger : tie.Need-add-larger
-add-larger c = omega (arith, counts-got (ready-past (ready-got (c .before .before .before .before .before .before .before .before .before .before .before .before .before .before .before .before .before .before .before .before .before .before .pre) (got expression-way (c .before .before .before .before .before .before .before .before .before .before .before .before .before .before .before .left .given .1) (c .before .before .before .before .before .before .before .before .before .before .before .before .before .before .before .before .before .before .expression .ensures))) _ (le-refl _) (past _ _ _ (c .before .before .before .before .before .before .before .before .before .before .advance .ensures) (c .before .before .before .before .before .before .before .before .a .given .1))) (got expression-way (c .before .before .right .given .1) (c .before .before .before .before .before .expression2 .ensures)) .1)
-
-emitted-requires : tie.Need-emitted-requires
-emitted-requires c κs = counts-got (ready-past (ready-got (c .before .before .before .before .before .before .before .before .before .before .before .before .before .before .before .before .before .before .before .before .before .before .before .before .before .pre) (got expression-way (c .before .before .before .before .before .before .before .before .before .before .before .before .before .before .before .before .before .before .left .given .1) (c .before .before .before .before .before .before .before .before .before .before .before .before .before .before .before .before .before .before .before .before .before .expression .ensures))) _ (le-refl _) (past _ _ _ (c .before .before .before .before .before .before .before .before .before .before .before .before .before .advance .ensures) (c .before .before .before .before .before .before .before .before .before .before .before .a .given .1))) (got expression-way (c .before .before .before .before .before .right .given .1) (c .before .before .before .before .before .before .before .before .expression2 .ensures)) .0
+joined-requires : tie.Need-joined-requires
+joined-requires c κs = counts-got (ready-past (ready-got (c .before .before .before .before .before .before .before .before .before .before .before .before .before .before .before .before .before .before .before .before .before .before .pre) (got expression-way (c .before .before .before .before .before .before .before .before .before .before .before .before .before .before .before .left .given .1) (c .before .before .before .before .before .before .before .before .before .before .before .before .before .before .before .before .before .before .expression .ensures))) _ (le-refl _) (past _ _ _ (c .before .before .before .before .before .before .before .before .before .before .advance .ensures) (c .before .before .before .before .before .before .before .before .a .given .1))) (got expression-way (c .before .before .right .given .1) (c .before .before .before .before .before .expression2 .ensures))
 
 same-length-5 : tie.Need-same-length-5
-same-length-5 c = c .before .emitted .kept .0 ∙ c .before .before .before .before .before .before .before .before .before .before .expression2 .kept .1 .1 .1 .0 ∙ c .before .before .before .before .before .before .before .before .before .before .before .before .before .before .before .before .before .before .before .before .before .before .before .expression .kept .1 .1 .1 .0
+same-length-5 c = c .before .joined .kept .0 ∙ c .before .before .before .before .before .before .before .expression2 .kept .1 .1 .1 .0 ∙ c .before .before .before .before .before .before .before .before .before .before .before .before .before .before .before .before .before .before .before .before .expression .kept .1 .1 .1 .0
 
 returns-5 : tie.Need-returns-5
-returns-5 c = done comparison-way refl (rw (c .before .emitted .ensures .0, c .before .emitted .ensures .1, toZ-ofZ (record { sfits = c .before .before .operation .ok }), c .before .before .operation .ensures, c .before .before .before .before .larger .ensures) (right-joined comparison-joins (got expression-way (c .before .before .before .before .before .before .before .before .before .before .before .before .before .before .before .before .before .before .before .before .left .given .1) (c .before .before .before .before .before .before .before .before .before .before .before .before .before .before .before .before .before .before .before .before .before .before .before .expression .ensures)) (c .before .before .before .before .before .before .before .before .before .before .before .before .before .before .before .before .before .before .fixed-ahead .ensures) (sym (c .before .before .before .before .before .before .before .before .before .before .before .before .before .before .before .before .before .is-rel .ensures) ∙ flag-on _ (c .before .before .before .before .before .before .before .before .before .before .before .before .before .before .before .before .if1 .left)) (past _ _ _ (c .before .before .before .before .before .before .before .before .before .before .before .before .before .before .before .advance .ensures) (c .before .before .before .before .before .before .before .before .before .before .before .before .before .a .given .1)) (got expression-way (c .before .before .before .before .before .before .before .right .given .1) (c .before .before .before .before .before .before .before .before .before .before .expression2 .ensures))))
+unfolding joined-walk
+returns-5 c = done comparison-way (c .before .joined .ensures .0) (rw (c .before .joined .ensures .1) (right-joined comparison-joins (got expression-way (c .before .before .before .before .before .before .before .before .before .before .before .before .before .before .before .before .before .left .given .1) (c .before .before .before .before .before .before .before .before .before .before .before .before .before .before .before .before .before .before .before .before .expression .ensures)) (c .before .before .before .before .before .before .before .before .before .before .before .before .before .before .before .fixed-ahead .ensures) (sym (c .before .before .before .before .before .before .before .before .before .before .before .before .before .before .is-rel .ensures) ∙ flag-on _ (c .before .before .before .before .before .before .before .before .before .before .before .before .before .if1 .left)) (past _ _ _ (c .before .before .before .before .before .before .before .before .before .before .before .before .advance .ensures) (c .before .before .before .before .before .before .before .before .before .before .a .given .1)) (got expression-way (c .before .before .before .before .right .given .1) (c .before .before .before .before .before .before .before .expression2 .ensures))))
 
 pub comparison-spec : {M : Type 1} → statement M
 comparison-spec =
@@ -66,9 +63,6 @@ comparison-spec =
     (λ c. search needs)
     (λ c. search needs)
     returns-4
-    add-larger
-    (λ c κs. search needs)
-    (λ c κs. search needs)
-    emitted-requires
+    joined-requires
     same-length-5
     returns-5)
