@@ -30,8 +30,8 @@ use Rattle.meaning.specs.Layout.{size, need, code, program-code, program-need}
 use Rattle.meaning.proofs.Laid.{laid-program}
 use Rattle.compiler.specs.declared.walk.Walk.{Walk}
 use Rattle.compiler.specs.declared.walk.Gives.{Gives}
-use Rattle.compiler.specs.declared.walk.Fault.{Fault}
-use Rattle.compiler.specs.declared.walk.Fault.the-variants as fault
+use Rattle.compiler.specs.declared.walk.NameFault.{NameFault}
+use Rattle.compiler.specs.declared.walk.NameFault.the-variants as fault
 use Rattle.compiler.specs.declared.walk.Read.{Read}
 use Rattle.compiler.specs.declared.walk.Read.the-variants as read
 use Rattle.compiler.specs.declared.Counts.{Counts}
@@ -173,7 +173,7 @@ module _ (nesting instructions : ℕ) (text names : List ℕ) (none : List ℤ) 
       it : Ran nesting text names none 0 names′ none′ v g
       it = ran nesting text names none 0 o names′ none′ d is
 
-      by : (f : Fault) → v .fault ≡ f → settled-by instructions (counts names′ .cells) v g f ≡ answered (pass (resolved (room names) (it .tree)) λ k. at-most instructions (record { command = k .what; cells = k .scope .cells }))
+      by : (f : NameFault) → v .fault ≡ f → settled-by instructions (counts names′ .cells) v g f ≡ answered (pass (resolved (room names) (it .tree)) λ k. at-most instructions (record { command = k .what; cells = k .scope .cells }))
       by (fault.Is why p) f = unfold settled-by answered in rw (unnamed it f)
       by fault.Nothing f = let k = settled it f in rw (k .are-known, k .cells-are) (sized instructions (counts names′ .cells) v g (k .known .what) (omega (arith, k .size-is)) (k .need-is))
 

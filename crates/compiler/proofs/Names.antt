@@ -25,8 +25,8 @@ use Rattle.instruction.specs.Instructions.{Instruction, push-int, load-stack, s
 use Rattle.meaning.specs.Layout.{size, code, need}
 use Rattle.compiler.specs.declared.walk.Walk.{Walk}
 use Rattle.compiler.specs.declared.walk.Gives.{Gives}
-use Rattle.compiler.specs.declared.walk.Fault.{Fault}
-use Rattle.compiler.specs.declared.walk.Fault.the-variants.{Nothing, Is}
+use Rattle.compiler.specs.declared.walk.NameFault.{NameFault}
+use Rattle.compiler.specs.declared.walk.NameFault.the-variants.{Nothing, Is}
 use Rattle.compiler.specs.Steps.{moved-to, one-instruction, first-fault, faulted-walk, operand-of, cell-of, noted-walk, cell-number, declared-walk}
 use Rattle.compiler.specs.Tables.{put, emit}
 use Rattle.compiler.specs.Walks.{standing, stand, Laid, spare, Lays, Ready, name-of}
@@ -56,7 +56,7 @@ module _ (text names : List ℕ) (sound : Sound names) (l : Lexeme) where
   unfolding stand
   leads-used w = by (cell-of text names l) refl (w .fault)
     where
-      by : (c : Cell) → cell-of text names l ≡ c → (f : Fault) →
+      by : (c : Cell) → cell-of text names l ≡ c → (f : NameFault) →
           Leads (λ k. cell-number c ≡ k) (standing (noted-walk c (record { next = w .next; code = w .code; fault = f }) (l .place) .fault) (scope-in text names)) (pass (standing f (scope-in text names)) (used (name-of text l)))
       by (At k) e Nothing = unfold noted-walk standing pass cell-of name-of in gives (record { what = k; scope = scope-in text names }) (used-at text names (name-of text l) k e) refl (cell-fits k e)
       by Nowhere e Nothing = unfold noted-walk faulted-walk first-fault standing pass cell-of name-of in refuses Undeclared (l .place) (used-nowhere text names (name-of text l) e) refl
@@ -111,14 +111,14 @@ module _ (names : List ℕ) (sound : Sound names) (w : Walk) (text : List ℕ) w
   abbrev names-after : List ℕ
   names-after = declared-in names (w .next .place) (w .next .end)
 
-  abbrev as-found : Fault → Walk
+  abbrev as-found : NameFault → Walk
   as-found f = record { next = w .next; code = w .code; fault = f }
 
   leads-declared : Leads (λ k. counts names .«next_cell» ≡ k) (stand text names-after (declared-walk names w)) (pass (stand text names w) (declared-here (room names) (name-of text (w .next))))
   unfolding stand declared-walk
   leads-declared = by (ltb (counts names .declared) (room names)) refl (w .fault)
     where
-      by : (b : Bool) → ltb (counts names .declared) (room names) ≡ b → (f : Fault) →
+      by : (b : Bool) → ltb (counts names .declared) (room names) ≡ b → (f : NameFault) →
           Leads (λ k. counts names .«next_cell» ≡ k) (standing (cond b (as-found f) (faulted-walk (as-found f) TooManyDeclared (w .next .place)) .fault) (scope-in text names-after)) (pass (standing f (scope-in text names)) (declared-here (room names) (name-of text (w .next))))
       by true h Nothing = unfold standing pass name-of in
           gives (record { what = counts names .«next_cell»; scope = scope-in text names-after }) (declared-given names (w .next .place) (w .next .end) sound (ltb-true (counts names .declared) (room names) h) text (name-of text (w .next)) refl) refl refl
@@ -145,7 +145,7 @@ abbrev outside : {A : Type 0} → N.Scope → Known A → Answer (Known A)
 outside s a = given (record { what = a .what; scope = closed s (a .scope) })
 
 module _ {A : Type 0} {P : A → Type 0} (m : Naming A) (s t : N.Scope) where
-  leads-scoped : (f h : Fault) → Leads P (standing h t) (pass (standing f (opened s)) m) → Leads P (standing h (closed s t)) (pass (standing f s) (scoped m))
+  leads-scoped : (f h : NameFault) → Leads P (standing h t) (pass (standing f (opened s)) m) → Leads P (standing h (closed s t)) (pass (standing f s) (scoped m))
   unfolding standing pass scoped
   leads-scoped Nothing Nothing (gives r e d p) = let j : t ≡ r .scope = cc in gives (record { what = r .what; scope = closed s (r .scope) }) (ap (λ o. pass o (outside s)) e) (ap (λ u. given (closed s u)) j) p
   leads-scoped Nothing Nothing (refuses why i e d) = never d

@@ -18,8 +18,8 @@ use Rattle.compiler.specs.declared.Answer.{Answer}
 use Rattle.compiler.specs.declared.Answer.the-variants.{Accepted, Refused}
 use Rattle.compiler.specs.declared.walk.Walk.{Walk}
 use Rattle.compiler.specs.declared.walk.Gives.{Gives}
-use Rattle.compiler.specs.declared.walk.Fault.{Fault}
-use Rattle.compiler.specs.declared.walk.Fault.the-variants as fault
+use Rattle.compiler.specs.declared.walk.NameFault.{NameFault}
+use Rattle.compiler.specs.declared.walk.NameFault.the-variants as fault
 use Rattle.compiler.specs.Compiled as C
 use Rattle.compiler.specs.Compiled.{code-of-text, table-after, measured}
 use Rattle.compiler.specs.Tables.{emit}
@@ -40,7 +40,7 @@ Measured nesting declarations instructions text r =
     (sizes : Sizes) (ls : List Placed) → sizes .literal ≤ 2147483647 → lexemes sizes text ≡ given ls → r ≡ answered (measured nesting declarations instructions ls)
 
 -- what a whole Program's walk comes to: the leftmost refusal of a name, too much code, or the counts
-unfoldable pub settled-by : ℕ → ℕ → Walk → Gives → Fault → Answer
+unfoldable pub settled-by : ℕ → ℕ → Walk → Gives → NameFault → Answer
 settled-by limit cells w g fault.Nothing =
     cond (ltb limit (cells + w .code + 1)) (Refused TooMuchCode 0)
     (Accepted (record { instructions = cells + w .code + 1; cells = cells; need = cells + g .need }))

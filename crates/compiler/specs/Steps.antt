@@ -24,8 +24,8 @@ use Rattle.instruction.specs.Numbers.{plus, minus, times, divide, equals, small
 use Rattle.instruction.specs.Instructions.{number}
 use Rattle.compiler.specs.declared.walk.Walk.{Walk}
 use Rattle.compiler.specs.declared.walk.Gives.{Gives}
-use Rattle.compiler.specs.declared.walk.Fault.{Fault}
-use Rattle.compiler.specs.declared.walk.Fault.the-variants.{Nothing, Is}
+use Rattle.compiler.specs.declared.walk.NameFault.{NameFault}
+use Rattle.compiler.specs.declared.walk.NameFault.the-variants.{Nothing, Is}
 use Rattle.compiler.specs.declared.walk.Read.{Read}
 use Rattle.compiler.specs.declared.walk.Read.the-variants.{Done, Refused}
 use Rattle.compiler.specs.Tables.{put}
@@ -42,7 +42,7 @@ unfoldable pub one-instruction : Walk → Walk
 one-instruction w = record { next = w .next; code = w .code + 1; fault = w .fault }
 
 -- the leftmost refusal stays
-unfoldable pub first-fault : Fault → Refusal → ℕ → Fault
+unfoldable pub first-fault : NameFault → Refusal → ℕ → NameFault
 first-fault Nothing why p = Is why p
 first-fault (Is why′ q) why p = Is why′ q
 

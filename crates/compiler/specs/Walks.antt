@@ -22,8 +22,8 @@ use Rattle.names.specs.Held.{counts, room, scope-in, Sound, Kept}
 use Rattle.meaning.specs.Layout as layout
 use Rattle.compiler.specs.declared.walk.Walk.{Walk}
 use Rattle.compiler.specs.declared.walk.Gives.{Gives}
-use Rattle.compiler.specs.declared.walk.Fault.{Fault}
-use Rattle.compiler.specs.declared.walk.Fault.the-variants.{Nothing, Is}
+use Rattle.compiler.specs.declared.walk.NameFault.{NameFault}
+use Rattle.compiler.specs.declared.walk.NameFault.the-variants.{Nothing, Is}
 use Rattle.compiler.specs.declared.walk.Read.{Read}
 use Rattle.compiler.specs.declared.walk.Read.the-variants.{Done, Refused}
 use Rattle.compiler.specs.Steps.{start-at, Past}
@@ -52,7 +52,7 @@ Refuses text l allow k start why p = (ls : List Placed) → Ahead text l ls → 
 -- ---- naming and writing
 
 -- the scope reached, or the leftmost refusal of 6 and 7
-unfoldable pub standing : Fault → Scope → Answer Scope
+unfoldable pub standing : NameFault → Scope → Answer Scope
 standing Nothing s = given s
 standing (Is why p) s = refused why p
 

@@ -3,7 +3,8 @@ ghost use mathlib.Core.Path.{_≡_};
 ghost use mathlib.Core.List.{[], _∷_};
 ghost use Prim.Native.Nat.{suc, _<_};
 ghost use lib.IntN.{pos};
-ghost use Rattle.lexeme.specs.Coded.{fixed-number};
+ghost use Rattle.lexeme.specs.Lexemes.{open-round};
+ghost use Rattle.lexeme.specs.Coded.{code-of, fixed-number};
 ghost use Rattle.compiler.specs.Steps.{joined-walk, operation-number};
 ghost use Rattle.compiler.specs.Tables.{put};
 ghost use Rattle.compiler.specs.Walks.{Ready, Reads-factor, Reads-term, Reads-first-term, Reads-expression, Reads-condition, Reads-comparison};
@@ -50,7 +51,7 @@ fn factor(allow: usize, text: &[u8], names: &[usize], table: &mut [i32], w: Walk
 // `(`, an Expression, `)`, with so many nestings allowed inside.
 fn bracket(allow: usize, text: &[u8], names: &[usize], table: &mut [i32], w: Walk) -> Read
     requires { ⌜ Ready (now text) (now names) w (suc allow) ⌝ }
-    requires { ⌜ fixed-number (w .next .kind) ≡ 40 ⌝ }
+    requires { ⌜ fixed-number (w .next .kind) ≡ code-of open-round ⌝ }
     ensures { λ r. ⌜ Reads-factor (now (text .entry)) (now (names .entry)) (now (table .entry)) w (suc allow) r (now (names .entry)) (now (table .exit)) ⌝ }
 {
     let a = walk::advance(text, w, 0);

@@ -18,8 +18,8 @@ use instruction::operations;
 use lexeme::Found;
 use lexeme::fixed;
 use limits::Limits;
-use walk::Fault;
 use walk::Gives;
+use walk::NameFault;
 use walk::Read;
 use walk::Walk;
 
@@ -70,7 +70,7 @@ fn settled(cells: usize, w: Walk, g: Gives) -> Answer
     ensures { λ r. do ⌜ r ≡ settled-by (← ⟦Limits::INSTRUCTIONS⟧ .entry) cells w g (w .fault) ⌝ }
 {
     let fault = w.fault;
-    if let Fault::Is(why, place) = fault {
+    if let NameFault::Is(why, place) = fault {
         return Answer::Refused(why, place);
     }
     let size = cells + w.code + 1;

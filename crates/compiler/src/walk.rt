@@ -14,7 +14,7 @@ use lexeme::Lexeme;
 use lexeme::fixed;
 
 // The leftmost refusal of 6 and 7 so far.
-pub enum Fault {
+pub enum NameFault {
     Nothing,
     Is(Refusal, usize),
 }
@@ -25,7 +25,7 @@ pub struct Walk {
     pub next: Lexeme,
     // The place of the next instruction.
     pub code: usize,
-    pub fault: Fault,
+    pub fault: NameFault,
 }
 
 // What a construct gives.
@@ -89,14 +89,14 @@ pub fn faulted(w: Walk, why: Refusal, place: usize) -> Walk
     ensures { λ r. ⌜ r ≡ faulted-walk w why place ⌝ }
 {
     let fault = w.fault;
-    if let Fault::Is(_, _) = fault {
+    if let NameFault::Is(_, _) = fault {
         return w;
     }
     let next = w.next;
     Walk {
         next: next,
         code: w.code,
-        fault: Fault::Is(why, place),
+        fault: NameFault::Is(why, place),
     }
 }
 
@@ -121,7 +121,7 @@ pub fn start(code: usize) -> Walk
             end: 0,
         },
         code: code,
-        fault: Fault::Nothing,
+        fault: NameFault::Nothing,
     }
 }
 

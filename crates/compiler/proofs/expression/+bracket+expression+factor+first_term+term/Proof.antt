@@ -336,6 +336,7 @@ unfolding Reads code-of
 factor-returns-2 t c = bracket-too-deep (c .before .before .before .before .before .before .before .before .pre .1 .stands) _ (fixed-is (c .before .before .before .kind2 .given .1) ∙ c .before .if1 .left) (c .if2 .taken)
 
 factor-bracket-requires : (t : ℕ) → factor-lts.Need-bracket-requires (factor-calls t) (factor-at t) factor.Post
+unfolding code-of
 factor-bracket-requires t c κs = (omega (arith, c .before .before .before .before .before .before .before .before .before .pre .0, c .before .if2 .left), (one-allowed (c .before .before .before .before .before .before .before .before .before .pre .1) (c .before .if2 .left), fixed-is (c .before .before .before .before .kind2 .given .1) ∙ c .before .before .if1 .left))
 
 factor-returns-3 : (t : ℕ) → factor-lts.Need-returns-3 (factor-calls t) (factor-at t) factor.Post
