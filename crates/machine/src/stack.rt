@@ -14,7 +14,7 @@ use super::state::moved;
 use instruction::arith::Calculated;
 use instruction::arith::Operator;
 use instruction::arith::calculate;
-use instruction::arith::in_range;
+use instruction::arith::negated;
 use instruction::arith::truth;
 use instruction::endings;
 
@@ -117,7 +117,7 @@ pub fn negate(s: State, stack: &mut [i32]) -> Move
         return Move::Stop(endings::BAD_CODE);
     }
     let v = stack[depth - 1];
-    put(s, stack, depth - 1, in_range(-(v as i64)))
+    put(s, stack, depth - 1, negated(v))
 }
 
 pub fn not(s: State, stack: &mut [i32]) -> Move

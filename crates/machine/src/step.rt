@@ -8,6 +8,7 @@ use super::print;
 use super::stack;
 use super::state::Move;
 use super::state::State;
+use instruction::arith::Operator;
 use instruction::decode::Op;
 use instruction::decode::decode;
 use instruction::endings;
@@ -37,7 +38,13 @@ pub fn step(
         Op::StoreStack(k) => stack::store_stack(s, cells, k),
         Op::Jump(a) => stack::jump(s, count, a),
         Op::JumpIfFalse(a) => stack::jump_if_false(s, cells, count, a),
-        Op::Two(k) => stack::two_sided(s, cells, k),
+        Op::Plus => stack::two_sided(s, cells, Operator::Plus),
+        Op::Minus => stack::two_sided(s, cells, Operator::Minus),
+        Op::Times => stack::two_sided(s, cells, Operator::Times),
+        Op::Divide => stack::two_sided(s, cells, Operator::Divide),
+        Op::Equals => stack::two_sided(s, cells, Operator::Equals),
+        Op::Smaller => stack::two_sided(s, cells, Operator::Smaller),
+        Op::Greater => stack::two_sided(s, cells, Operator::Greater),
         Op::Negate => stack::negate(s, cells),
         Op::Not => stack::not(s, cells),
         Op::Read => stack::read(s, readings, cells),
