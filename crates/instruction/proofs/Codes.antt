@@ -1,11 +1,11 @@
 -- Operation numbers and operands, as the code's tests tell of them. Assumes nothing.
-use mathlib.Core.Path.{_≡_, refl}
+use mathlib.Core.Path.{_≡_, refl, _∙_}
 use mathlib.Core.Bool.{true, false}
 use mathlib.Core.Option.{none, some}
 use Prim.Native.Nat.{ℕ, zero, suc, _≤_, _<_}
-use native.Mathlib.Nat.{lt-trans}
+use native.Mathlib.Decide.{ℕ-discrete}
 use native.Mathlib.Omega.{arith}
-use lib.Dec.{T, lit<}
+use lib.Dec.{T, eqb, lit<}
 use lib.IntN.{ℤ, pos, negsuc, natAbs}
 use lib.Signed.{ltZ, nonNeg}
 use mir.Syntax.{w32, w64}
@@ -16,9 +16,9 @@ use Rattle.instruction.specs.Instructions.{Instruction, number, pair, na
 use Rattle.instruction.proofs.Signed.{from-bits, not-below}
 
 -- an operation number that the match found
-pub found : (z a : ℤ) → SFits w32 z → (k : ℕ) → k < 20 → ofZ w32 z ≡ k → operation k a ≡ decode z a
+pub found : (z a : ℤ) → SFits w32 z → (k : ℕ) → k < 2147483648 → ofZ w32 z ≡ k → operation k a ≡ decode z a
 unfolding decode
-found z a f k p e = rw (from-bits z f k (lt-trans p (lit< tt)) e)
+found z a f k p e = rw (from-bits z f k p e)
 
 -- an operand that the code's test found not below zero
 module _ (a : ℤ) (g : SFits w32 a) (h : ltZ (toZ w32 (ofZ w32 a)) (pos 0) ≡ false) where
@@ -56,8 +56,17 @@ abbrev pub none-of : ℕ → ℕ → Type 0
 none-of zero n = Unit {0}
 none-of (suc k) n = none-of k n × (n ≡ suc k → ⊥)
 
+miss : (k n : ℕ) → none-of k n → (j : ℕ) → 0 < j → j ≤ k → eqb n j ≡ false
+miss zero n r j p q = absurd (omega arith)
+miss (suc k) n r j p q = by (ℕ-discrete j (suc k)) (miss k n (r .0) j p)
+  where
+    by : Dec (j ≡ suc k) → (j ≤ k → eqb n j ≡ false) → eqb n j ≡ false
+    by (yes e) f = ne-eqb n j (λ (h : n ≡ j). r .1 (h ∙ e))
+    by (no e) f = f (omega (arith, e))
+
 -- a number that is none of 1 to 19 is no operation
 pub no-operation : (z a : ℤ) → none-of 19 (ofZ w32 z) → none ≡ decode z a
 unfolding decode operation opcode pair number
-no-operation (pos n) a r = rw (ne-eqb n 1 (r .0 .0 .0 .0 .0 .0 .0 .0 .0 .0 .0 .0 .0 .0 .0 .0 .0 .0 .1), ne-eqb n 2 (r .0 .0 .0 .0 .0 .0 .0 .0 .0 .0 .0 .0 .0 .0 .0 .0 .0 .1), ne-eqb n 3 (r .0 .0 .0 .0 .0 .0 .0 .0 .0 .0 .0 .0 .0 .0 .0 .0 .1), ne-eqb n 4 (r .0 .0 .0 .0 .0 .0 .0 .0 .0 .0 .0 .0 .0 .0 .0 .1), ne-eqb n 5 (r .0 .0 .0 .0 .0 .0 .0 .0 .0 .0 .0 .0 .0 .0 .1), ne-eqb n 6 (r .0 .0 .0 .0 .0 .0 .0 .0 .0 .0 .0 .0 .0 .1), ne-eqb n 7 (r .0 .0 .0 .0 .0 .0 .0 .0 .0 .0 .0 .0 .1), ne-eqb n 8 (r .0 .0 .0 .0 .0 .0 .0 .0 .0 .0 .0 .1), ne-eqb n 9 (r .0 .0 .0 .0 .0 .0 .0 .0 .0 .0 .1), ne-eqb n 10 (r .0 .0 .0 .0 .0 .0 .0 .0 .0 .1), ne-eqb n 11 (r .0 .0 .0 .0 .0 .0 .0 .0 .1), ne-eqb n 12 (r .0 .0 .0 .0 .0 .0 .0 .1), ne-eqb n 13 (r .0 .0 .0 .0 .0 .0 .1), ne-eqb n 14 (r .0 .0 .0 .0 .0 .1), ne-eqb n 15 (r .0 .0 .0 .0 .1), ne-eqb n 16 (r .0 .0 .0 .1), ne-eqb n 17 (r .0 .0 .1), ne-eqb n 18 (r .0 .1), ne-eqb n 19 (r .1))
+no-operation (pos n) a r = let m : (j : ℕ) → 0 < j → j ≤ 19 → eqb n j ≡ false = miss 19 n r in
+    rw (m 1 (lit< tt) (lit< tt), m 2 (lit< tt) (lit< tt), m 3 (lit< tt) (lit< tt), m 4 (lit< tt) (lit< tt), m 5 (lit< tt) (lit< tt), m 6 (lit< tt) (lit< tt), m 7 (lit< tt) (lit< tt), m 8 (lit< tt) (lit< tt), m 9 (lit< tt) (lit< tt), m 10 (lit< tt) (lit< tt), m 11 (lit< tt) (lit< tt), m 12 (lit< tt) (lit< tt), m 13 (lit< tt) (lit< tt), m 14 (lit< tt) (lit< tt), m 15 (lit< tt) (lit< tt), m 16 (lit< tt) (lit< tt), m 17 (lit< tt) (lit< tt), m 18 (lit< tt) (lit< tt), m 19 (lit< tt) (lit< tt))
 no-operation (negsuc n) a r = refl

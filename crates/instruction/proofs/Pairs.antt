@@ -1,12 +1,14 @@
--- An instruction and its pair: encoded and then decoded it is the same. Assumes nothing.
+-- An instruction and its pair: `pair` encodes it, `decode` leads back, and each undoes the other. Assumes nothing.
 use mathlib.Core.Path.{_≡_, refl}
 use mathlib.Core.List.{List, [], _∷_}
-use mathlib.Core.Option.{some}
+use mathlib.Core.Bool.{Bool, true, false, cond}
+use mathlib.Core.Option.{Option, none, some}
 use Prim.Native.Nat.{ℕ, zero, suc, _+_, _*_, _<_}
 use native.Mathlib.Omega.{arith}
-use lib.IntN.{ℤ, pos}
+use lib.Dec.{ltb, eqb}
+use lib.IntN.{ℤ, pos, negsuc}
 use lib.ListN.{length, getD, getElem?}
-use borrow.Author.Tests.{lt-ltb}
+use borrow.Author.Tests.{lt-ltb, eqb-true}
 use Rattle.instruction.specs.Numbers.{plus, minus, times, divide, equals, smaller, greater, is-false}
 use Rattle.instruction.specs.Instructions.{Instruction, halt, push-int, load-stack, store-stack, jump, jump-if-false, two-sided, negate, not, read, print-int, print-str, print-str-ln, alone, natural, halting, opcode, operation, decode, number, pair, numbers}
 
@@ -74,3 +76,65 @@ decoded-at (i ∷ is) s (suc a) = let w = written i (s .0) in rw (w .2 (numbers 
 
     twice-and-one : suc (suc (a * 2)) + 1 ≡ suc (suc (a * 2 + 1))
     twice-and-one = omega arith
+
+-- ---- and decoded and then encoded it is the same
+
+nothing : (i : Instruction) → none ≡ some i → ⊥
+nothing i e = let z : _≡_ {A = ℕ} 0 1 = cc in omega arith
+
+-- what stands at a number that was found, or what comes after it
+on : {P : Type 0} (n k : ℕ) (here rest : Option Instruction) (i : Instruction) → (n ≡ k → here ≡ some i → P) → (rest ≡ some i → P) → cond (eqb n k) here rest ≡ some i → P
+on {P} n k here rest i f g e = by (eqb n k) refl e
+  where
+    by : (b : Bool) → eqb n k ≡ b → cond b here rest ≡ some i → P
+    by true h p = f (eqb-true n k h) p
+    by false h p = g p
+
+natural-back : (f : ℕ → Instruction) (k : ℕ) → ((m : ℕ) (t : List ℤ) → pair (f m) t ≡ pos k ∷ pos m ∷ t) → (y : ℤ) (i : Instruction) → natural f y ≡ some i → (t : List ℤ) → pair i t ≡ pos k ∷ y ∷ t
+unfolding natural
+natural-back f k w (pos m) i e t = let q : i ≡ f m = cc in rw q (w m t)
+natural-back f k w (negsuc m) i e t = absurd (nothing i e)
+
+alone-back : (j : Instruction) (k : ℕ) → ((t : List ℤ) → pair j t ≡ pos k ∷ pos 0 ∷ t) → (y : ℤ) (i : Instruction) → alone j y ≡ some i → (t : List ℤ) → pair i t ≡ pos k ∷ y ∷ t
+unfolding alone is-false
+alone-back j k w (pos n) i e t = on n 0 (some j) none i (λ q h. let r : i ≡ j = cc in rw (q, r) (w t)) (λ h. absurd (nothing i h)) e
+alone-back j k w (negsuc m) i e t = absurd (nothing i e)
+
+halting-back : (y : ℤ) (i : Instruction) → halting y ≡ some i → (t : List ℤ) → pair i t ≡ pos 1 ∷ y ∷ t
+unfolding halting pair
+halting-back (pos n) i e t = by (ltb n 2) e
+  where
+    by : (b : Bool) → cond b (some (halt n)) none ≡ some i → pair i t ≡ pos 1 ∷ pos n ∷ t
+    by true p = let q : i ≡ halt n = cc in rw q
+    by false p = absurd (nothing i p)
+halting-back (negsuc n) i e t = absurd (nothing i e)
+
+push-back : (y : ℤ) (i : Instruction) → some (push-int y) ≡ some i → (t : List ℤ) → pair i t ≡ pos 2 ∷ y ∷ t
+unfolding pair
+push-back y i e t = let q : i ≡ push-int y = cc in rw q
+
+-- two numbers that are decoded are the pair of what they are decoded to
+pub encoded : (x y : ℤ) (i : Instruction) → decode x y ≡ some i → (t : List ℤ) → pair i t ≡ x ∷ y ∷ t
+unfolding decode operation opcode pair number
+encoded (negsuc n) y i = λ e. absurd (nothing i e)
+encoded (pos n) y i =
+    on n 1 _ _ i (λ q h. rw q (halting-back y i h))
+    (on n 2 _ _ i (λ q h. rw q (push-back y i h))
+    (on n 3 _ _ i (λ q h. rw q (natural-back load-stack 3 (λ m t. refl) y i h))
+    (on n 4 _ _ i (λ q h. rw q (natural-back store-stack 4 (λ m t. refl) y i h))
+    (on n 5 _ _ i (λ q h. rw q (natural-back jump 5 (λ m t. refl) y i h))
+    (on n 6 _ _ i (λ q h. rw q (natural-back jump-if-false 6 (λ m t. refl) y i h))
+    (on n 7 _ _ i (λ q h. rw q (alone-back (two-sided plus) 7 (λ t. refl) y i h))
+    (on n 8 _ _ i (λ q h. rw q (alone-back (two-sided minus) 8 (λ t. refl) y i h))
+    (on n 9 _ _ i (λ q h. rw q (alone-back (two-sided times) 9 (λ t. refl) y i h))
+    (on n 10 _ _ i (λ q h. rw q (alone-back (two-sided divide) 10 (λ t. refl) y i h))
+    (on n 11 _ _ i (λ q h. rw q (alone-back (two-sided equals) 11 (λ t. refl) y i h))
+    (on n 12 _ _ i (λ q h. rw q (alone-back (two-sided smaller) 12 (λ t. refl) y i h))
+    (on n 13 _ _ i (λ q h. rw q (alone-back (two-sided greater) 13 (λ t. refl) y i h))
+    (on n 14 _ _ i (λ q h. rw q (alone-back negate 14 (λ t. refl) y i h))
+    (on n 15 _ _ i (λ q h. rw q (alone-back not 15 (λ t. refl) y i h))
+    (on n 16 _ _ i (λ q h. rw q (alone-back read 16 (λ t. refl) y i h))
+    (on n 17 _ _ i (λ q h. rw q (alone-back print-int 17 (λ t. refl) y i h))
+    (on n 18 _ _ i (λ q h. rw q (natural-back print-str 18 (λ m t. refl) y i h))
+    (on n 19 _ _ i (λ q h. rw q (natural-back print-str-ln 19 (λ m t. refl) y i h))
+    (λ e. absurd (nothing i e))))))))))))))))))))

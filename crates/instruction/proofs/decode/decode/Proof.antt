@@ -12,7 +12,7 @@ use Rattle.instruction.proofs.decode.decode.Statement.{statement}
 use Rattle.instruction.proofs.decode.decode.Tie as tie
 
 -- an operation that the match found
-here : (c : tie.Start) (k : ℕ) → k < 20 → ofZ w32 (c .args .operation) ≡ k → operation k (c .args .a) ≡ decode (c .args .operation) (c .args .a)
+here : (c : tie.Start) (k : ℕ) → k < 2147483648 → ofZ w32 (c .args .operation) ≡ k → operation k (c .args .a) ≡ decode (c .args .operation) (c .args .a)
 here c = found (c .args .operation) (c .args .a) (c .fits .operation)
 
 pub decode-spec : {M : Type 1} → statement M
