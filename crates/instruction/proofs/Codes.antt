@@ -1,49 +1,72 @@
 -- Operation numbers and operands, as the code's tests tell of them. Assumes nothing.
-use mathlib.Core.Path.{_≡_, refl, sym, ap}
-use mathlib.Core.Bool.{Bool, true, false, cond}
-use mathlib.Core.Option.{Option, none}
-use Prim.Native.Nat.{ℕ, zero, suc, _<_}
-use native.Mathlib.Nat.{lt-trans}
+use mathlib.Core.Path.{_≡_, refl, _∙_}
+use mathlib.Core.Bool.{true, false}
+use mathlib.Core.Option.{none, some}
+use Prim.Native.Nat.{ℕ, zero, suc, _≤_, _<_}
+use native.Mathlib.Decide.{ℕ-discrete}
 use native.Mathlib.Omega.{arith}
 use lib.Dec.{T, eqb, lit<}
 use lib.IntN.{ℤ, pos, negsuc, natAbs}
 use lib.Signed.{ltZ, nonNeg}
-use mir.Syntax.{w32}
-use mir.Val.{SFits, toZ, ofZ}
-use mir.Facts.{toZ-ofZ}
-use borrow.Author.Tests.{ne-eqb, ltb-true}
-use Rattle.instruction.specs.Numbers.{is-false}
-use Rattle.instruction.specs.Instructions.{Instruction, alone, natural, halting, operation, decode}
+use mir.Syntax.{w32, w64}
+use mir.Val.{Fits, SFits, toZ, ofZ}
+use mir.Facts.{toZ-ofZ, fits-natAbs}
+use borrow.Author.Tests.{ne-eqb, ltb-true, le-ltb}
+use Rattle.instruction.specs.Instructions.{Instruction, number, pair, natural, halting, opcode, operation, decode}
 use Rattle.instruction.proofs.Signed.{from-bits, not-below}
 
-natural-is : (a : ℤ) → T (nonNeg a) → a ≡ pos (natAbs a)
-natural-is (pos n) t = refl
-natural-is (negsuc n) t = absurd t
-
--- an operand that is not below zero, with an operation number that the match found
-pub decodes : (z a : ℤ) → SFits w32 z → SFits w32 a → ltZ (toZ w32 (ofZ w32 a)) (pos 0) ≡ false → (k : ℕ) → k < 20 → ofZ w32 z ≡ k → operation k (pos (natAbs (toZ w32 (ofZ w32 a)))) ≡ decode z a
+-- an operation number that the match found
+pub found : (z a : ℤ) → SFits w32 z → (k : ℕ) → k < 2147483648 → ofZ w32 z ≡ k → operation k a ≡ decode z a
 unfolding decode
-decodes z a f g h k p e =
-    rw (toZ-ofZ g, from-bits z f k (lt-trans p (lit< tt)) e) (ap (operation k) (sym (natural-is a (not-below a (rw (toZ-ofZ g) at h)))))
+found z a f k p e = rw (from-bits z f k p e)
+
+-- an operand that the code's test found not below zero
+module _ (a : ℤ) (g : SFits w32 a) (h : ltZ (toZ w32 (ofZ w32 a)) (pos 0) ≡ false) where
+  pub natural-fits : T (nonNeg (toZ w32 (ofZ w32 a))) × Fits w64 (natAbs (toZ w32 (ofZ w32 a)))
+  natural-fits = rw (toZ-ofZ g) (not-below a (rw (toZ-ofZ g) at h), fits-natAbs tt g)
+
+  pub natural-here : (f : ℕ → Instruction) → some (f (natAbs (toZ w32 (ofZ w32 a)))) ≡ natural f a
+  unfolding natural
+  natural-here f = rw (toZ-ofZ g) (by a (not-below a (rw (toZ-ofZ g) at h)))
+    where
+      by : (a : ℤ) → T (nonNeg a) → some (f (natAbs a)) ≡ natural f a
+      by (pos n) t = unfold natural in refl
+      by (negsuc n) t = absurd t
+
+-- and one that it found below zero
+pub below-is : (a : ℤ) → SFits w32 a → ltZ (toZ w32 (ofZ w32 a)) (pos 0) ≡ true → (f : ℕ → Instruction) → none ≡ natural f a
+unfolding natural
+below-is a g h f = by a (rw (toZ-ofZ g) at h)
+  where
+    by : (a : ℤ) → ltZ a (pos 0) ≡ true → none ≡ natural f a
+    by (pos n) t = absurd (omega (arith, ltb-true n 0 t))
+    by (negsuc n) t = refl
+
+-- a Halt's operand that the code's tests found to be neither 0 nor 1
+pub no-halting : (a : ℤ) → (ofZ w32 a ≡ 0 → ⊥) → (ofZ w32 a ≡ 1 → ⊥) → none ≡ halting a
+unfolding halting
+no-halting (pos n) p q = rw (le-ltb n 2 (past n p q))
+  where
+    past : (n : ℕ) → (n ≡ 0 → ⊥) → (n ≡ 1 → ⊥) → 2 ≤ n
+    past n p q = omega (arith, p, q)
+no-halting (negsuc n) p q = refl
 
 -- n is none of 1 to k
 abbrev pub none-of : ℕ → ℕ → Type 0
 none-of zero n = Unit {0}
 none-of (suc k) n = none-of k n × (n ≡ suc k → ⊥)
 
+miss : (k n : ℕ) → none-of k n → (j : ℕ) → 0 < j → j ≤ k → eqb n j ≡ false
+miss zero n r j p q = absurd (omega arith)
+miss (suc k) n r j p q = by (ℕ-discrete j (suc k)) (miss k n (r .0) j p)
+  where
+    by : Dec (j ≡ suc k) → (j ≤ k → eqb n j ≡ false) → eqb n j ≡ false
+    by (yes e) f = ne-eqb n j (λ (h : n ≡ j). r .1 (h ∙ e))
+    by (no e) f = f (omega (arith, e))
+
 -- a number that is none of 1 to 19 is no operation
 pub no-operation : (z a : ℤ) → none-of 19 (ofZ w32 z) → none ≡ decode z a
-unfolding decode operation
-no-operation (pos n) a r = rw (ne-eqb n 1 (r .0 .0 .0 .0 .0 .0 .0 .0 .0 .0 .0 .0 .0 .0 .0 .0 .0 .0 .1), ne-eqb n 2 (r .0 .0 .0 .0 .0 .0 .0 .0 .0 .0 .0 .0 .0 .0 .0 .0 .0 .1), ne-eqb n 3 (r .0 .0 .0 .0 .0 .0 .0 .0 .0 .0 .0 .0 .0 .0 .0 .0 .1), ne-eqb n 4 (r .0 .0 .0 .0 .0 .0 .0 .0 .0 .0 .0 .0 .0 .0 .0 .1), ne-eqb n 5 (r .0 .0 .0 .0 .0 .0 .0 .0 .0 .0 .0 .0 .0 .0 .1), ne-eqb n 6 (r .0 .0 .0 .0 .0 .0 .0 .0 .0 .0 .0 .0 .0 .1), ne-eqb n 7 (r .0 .0 .0 .0 .0 .0 .0 .0 .0 .0 .0 .0 .1), ne-eqb n 8 (r .0 .0 .0 .0 .0 .0 .0 .0 .0 .0 .0 .1), ne-eqb n 9 (r .0 .0 .0 .0 .0 .0 .0 .0 .0 .0 .1), ne-eqb n 10 (r .0 .0 .0 .0 .0 .0 .0 .0 .0 .1), ne-eqb n 11 (r .0 .0 .0 .0 .0 .0 .0 .0 .1), ne-eqb n 12 (r .0 .0 .0 .0 .0 .0 .0 .1), ne-eqb n 13 (r .0 .0 .0 .0 .0 .0 .1), ne-eqb n 14 (r .0 .0 .0 .0 .0 .1), ne-eqb n 15 (r .0 .0 .0 .0 .1), ne-eqb n 16 (r .0 .0 .0 .1), ne-eqb n 17 (r .0 .0 .1), ne-eqb n 18 (r .0 .1), ne-eqb n 19 (r .1))
+unfolding decode operation opcode pair number
+no-operation (pos n) a r = let m : (j : ℕ) → 0 < j → j ≤ 19 → eqb n j ≡ false = miss 19 n r in
+    rw (m 1 (lit< tt) (lit< tt), m 2 (lit< tt) (lit< tt), m 3 (lit< tt) (lit< tt), m 4 (lit< tt) (lit< tt), m 5 (lit< tt) (lit< tt), m 6 (lit< tt) (lit< tt), m 7 (lit< tt) (lit< tt), m 8 (lit< tt) (lit< tt), m 9 (lit< tt) (lit< tt), m 10 (lit< tt) (lit< tt), m 11 (lit< tt) (lit< tt), m 12 (lit< tt) (lit< tt), m 13 (lit< tt) (lit< tt), m 14 (lit< tt) (lit< tt), m 15 (lit< tt) (lit< tt), m 16 (lit< tt) (lit< tt), m 17 (lit< tt) (lit< tt), m 18 (lit< tt) (lit< tt), m 19 (lit< tt) (lit< tt))
 no-operation (negsuc n) a r = refl
-
-idle : (t : Bool) {x : Option Instruction} → x ≡ none → cond t none x ≡ none
-idle true e = refl
-idle false e = e
-
--- below zero no operand is good but PushInt's
-pub bad-below : (z a : ℤ) → ltZ a (pos 0) ≡ true → (ofZ w32 z ≡ 2 → ⊥) → none ≡ decode z a
-unfolding decode operation alone natural halting is-false
-bad-below z (pos m) e h = absurd (omega (arith, ltb-true m 0 e))
-bad-below (negsuc n) (negsuc m) e h = refl
-bad-below (pos n) (negsuc m) e h = sym (idle (eqb n 1) (rw (ne-eqb n 2 h) (idle (eqb n 3) (idle (eqb n 4) (idle (eqb n 5) (idle (eqb n 6) (idle (eqb n 7) (idle (eqb n 8) (idle (eqb n 9) (idle (eqb n 10) (idle (eqb n 11) (idle (eqb n 12) (idle (eqb n 13) (idle (eqb n 14) (idle (eqb n 15) (idle (eqb n 16) (idle (eqb n 17) (idle (eqb n 18) (idle (eqb n 19) refl)))))))))))))))))))

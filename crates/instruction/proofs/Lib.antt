@@ -1,4 +1,5 @@
 pub mod Codes
 pub mod Digits
+pub mod Pairs
 pub mod Signed
 pub mod Unique

@@ -2,7 +2,7 @@
 use mathlib.Core.Path.{_≡_, refl, sym, ap, _∙_}
 use mathlib.Core.Bool.{Bool, true, false, cond, _&&_}
 use Prim.Native.Nat.{ℕ, zero, suc, _+_, _-_, _*_, _/_, _≤_, _<_}
-use native.Mathlib.Nat.{mul-le-mul, div-le-self, lt-of-le-of-lt, le-of-lt, lt-trans}
+use native.Mathlib.Nat.{mul-le-mul, mul-le-mul-left, div-le-self, div-lt-iff-lt-mul, lt-of-le-of-lt, lt-of-lt-of-le, le-of-lt, lt-trans}
 use native.Mathlib.Omega.{arith}
 use lib.Dec.{T, ltb, leb, eqb, lit<}
 use lib.IntN.{ℤ, pos, negsuc, negℤ, _+ℤ_, _-ℤ_, _*ℤ_, natAbs}
@@ -29,11 +29,9 @@ pub from-bits : (z : ℤ) → SFits w32 z → (n : ℕ) → n < 2147483648 → o
 from-bits (pos m) f n p e = ap pos e
 from-bits (negsuc m) f n p e = absurd (omega (arith, f .sfits))
 
--- the bits of a number that is not 0 are not 0 at 64 bits either
-pub bits-pos : (b : ℤ) → SFits w32 b → (ofZ w32 b ≡ 0 → ⊥) → 0 < ofZ w64 b
-bits-pos (pos zero) f h = absurd (h refl)
-bits-pos (pos (suc n)) f h = omega arith
-bits-pos (negsuc n) f h = omega (arith, f .sfits)
+-- the bits of a number that is not 0 are not 0
+pub bits-pos : (n : ℕ) → (n ≡ 0 → ⊥) → 0 < n
+bits-pos n h = omega (arith, h)
 
 -- ---- tests
 
@@ -79,6 +77,10 @@ small-neg : (n h : ℕ) → n < h → mag (negℤ (pos n)) < h
 small-neg zero h p = p
 small-neg (suc n) h p = omega arith
 
+neg-within : (n h : ℕ) → n ≤ h → 0 < h → mag (negℤ (pos n)) < h
+neg-within zero h p q = q
+neg-within (suc n) h p q = p
+
 pub small-add : (a b : ℤ) (h k : ℕ) → mag a < h → mag b < k → mag (a +ℤ b) < h + k
 small-add (pos a) (pos b) h k p q = omega arith
 small-add (pos a) (negsuc b) h k p q = small-cond (ltb a (suc b)) _ _ (h + k) (omega arith) (omega arith)
@@ -99,15 +101,39 @@ module _ (h k : ℕ) (hk : h * h < k) where
   small-mul (negsuc a) (pos b) p q = small-neg (suc a * b) k (below (far (negsuc a) p) (far (pos b) q))
   small-mul (negsuc a) (negsuc b) p q = below (far (negsuc a) p) (far (negsuc b) q)
 
-pub small-quot : (a b : ℤ) (h k : ℕ) → mag a < h → h < k → mag (quotZ a b) < k
-small-quot (pos a) (pos b) h k p q = omega (arith, div-le-self a b)
-small-quot (pos a) (negsuc b) h k p q = small-neg (a / suc b) k (omega (arith, div-le-self a (suc b)))
-small-quot (negsuc a) (pos b) h k p q = small-neg (suc a / b) k (omega (arith, div-le-self (suc a) b))
-small-quot (negsuc a) (negsuc b) h k p q = omega (arith, div-le-self (suc a) (suc b))
-
 pub small-negate : (a : ℤ) (h k : ℕ) → mag a < h → h < k → mag (negℤ a) < k
 small-negate (pos a) h k p q = small-neg a k (omega arith)
 small-negate (negsuc a) h k p q = omega arith
+
+-- ---- what 32 bits hold: the negation of all but the smallest number, and a quotient by all but minus one
+
+pub smallest-is : (v : ℤ) → SFits w32 v → ofZ w32 v ≡ 2147483648 → v ≡ negsuc 2147483647
+smallest-is (pos n) f e = absurd (omega (arith, f .sfits, e))
+smallest-is (negsuc n) f e = let q : n ≡ 2147483647 = omega (arith, f .sfits, e) in rw q
+
+not-last : (n : ℕ) → n < 2147483648 → (n ≡ 2147483647 → ⊥) → suc n < 2147483648
+not-last n p h = omega (arith, h)
+
+pub same-negate : (v : ℤ) → SFits w32 v → (ofZ w32 v ≡ 2147483648 → ⊥) → SFits w32 (negℤ v)
+same-negate (pos n) f h = record { sfits = small-neg n 2147483648 (f .sfits) }
+same-negate (negsuc n) f h = record { sfits = not-last n (f .sfits) (λ (q : n ≡ 2147483647). h (rw q)) }
+
+pub minus-one-is : (b : ℤ) → SFits w32 b → ofZ w32 b ≡ 4294967295 → b ≡ negsuc 0
+minus-one-is (pos n) f e = absurd (omega (arith, f .sfits, e))
+minus-one-is (negsuc n) f e = let q : n ≡ 0 = omega (arith, f .sfits, e) in rw q
+
+pub quot-minus-one : (a : ℤ) → quotZ a (negsuc 0) ≡ negℤ a
+quot-minus-one (pos n) = let q : n / 1 ≡ n = omega arith in rw q
+quot-minus-one (negsuc n) = let q : suc n / 1 ≡ suc n = omega arith in rw q
+
+half : (n b : ℕ) → n ≤ 2147483648 → 2 ≤ b → n / b < 2147483648
+half n b p q = let r : 0 < b = omega arith in div-lt-iff-lt-mul r .1 (lt-of-lt-of-le (omega arith) (mul-le-mul-left 2147483648 q))
+
+pub same-quot : (a b : ℤ) → SFits w32 a → SFits w32 b → (ofZ w32 b ≡ 4294967295 → ⊥) → SFits w32 (quotZ a b)
+same-quot (pos a) (pos b) f g h = record { sfits = omega (arith, f .sfits, div-le-self a b) }
+same-quot (pos a) (negsuc b) f g h = record { sfits = small-neg (a / suc b) 2147483648 (omega (arith, f .sfits, div-le-self a (suc b))) }
+same-quot (negsuc a) (pos b) f g h = record { sfits = neg-within (suc a / b) 2147483648 (omega (arith, f .sfits, div-le-self (suc a) b)) (lit< tt) }
+same-quot (negsuc a) (negsuc b) f g h = record { sfits = half (suc a) (suc b) (f .sfits) (omega (arith, g .sfits, h)) }
 
 -- ---- what 64 bits hold, of two numbers of 32
 
@@ -120,9 +146,6 @@ module _ {a b : ℤ} (f : SFits w32 a) (g : SFits w32 b) where
 
   pub wide-mul : SFits w64 (a *ℤ b)
   wide-mul = record { sfits = small-mul 2147483648 9223372036854775808 (lit< tt) a b (f .sfits) (g .sfits) }
-
-  pub wide-quot : SFits w64 (quotZ a b)
-  wide-quot = record { sfits = small-quot a b 2147483648 9223372036854775808 (f .sfits) (lit< tt) }
 
 pub wide-negate : {a : ℤ} → SFits w32 a → SFits w64 (negℤ a)
 wide-negate {a} f = record { sfits = small-negate a 2147483648 9223372036854775808 (f .sfits) (lit< tt) }

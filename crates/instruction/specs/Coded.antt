@@ -7,7 +7,8 @@ use Rattle.instruction.specs.declared.arith.Calculated.the-variants.{Val
 use Rattle.instruction.specs.declared.arith.Operator.{Operator}
 use Rattle.instruction.specs.declared.arith.Operator.the-variants.{Plus, Minus, Times, Divide, Equals, Smaller, Greater}
 use Rattle.instruction.specs.declared.decode.Op.{Op}
-use Rattle.instruction.specs.declared.decode.Op.the-variants.{Bad, Halt, PushInt, LoadStack, StoreStack, Jump, JumpIfFalse, Two, Negate, Not, Read, PrintInt, PrintStr, PrintStrLn}
+use Rattle.instruction.specs.declared.decode.Op.the-variants.{Bad, Halt, PushInt, LoadStack, StoreStack, Jump, JumpIfFalse, Negate, Not, Read, PrintInt, PrintStr, PrintStrLn}
+use Rattle.instruction.specs.declared.decode.Op.the-variants as Op
 
 abbrev pub as-result : Calculated → Result
 as-result (Value v) = value v
@@ -30,7 +31,13 @@ as-instruction (LoadStack k) = some (load-stack k)
 as-instruction (StoreStack k) = some (store-stack k)
 as-instruction (Jump a) = some (jump a)
 as-instruction (JumpIfFalse a) = some (jump-if-false a)
-as-instruction (Two t) = some (two-sided (as-two-sided t))
+as-instruction Op.Plus = some (two-sided plus)
+as-instruction Op.Minus = some (two-sided minus)
+as-instruction Op.Times = some (two-sided times)
+as-instruction Op.Divide = some (two-sided divide)
+as-instruction Op.Equals = some (two-sided equals)
+as-instruction Op.Smaller = some (two-sided smaller)
+as-instruction Op.Greater = some (two-sided greater)
 as-instruction Negate = some negate
 as-instruction Not = some not
 as-instruction Read = some read

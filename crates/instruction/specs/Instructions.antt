@@ -1,10 +1,11 @@
 -- Document 01, "Instructions": the nineteen, one pair of numbers each.
 use mathlib.Core.List.{List, [], _∷_}
-use mathlib.Core.Bool.{false, cond}
+use mathlib.Core.Bool.{cond}
 use mathlib.Core.Option.{Option, none, some}
 use Prim.Native.Nat.{ℕ}
 use lib.Dec.{ltb, eqb}
-use lib.IntN.{ℤ, pos, negsuc}
+use lib.IntN.{ℤ, pos, negsuc, natAbs}
+use lib.ListN.{getD}
 use Rattle.instruction.specs.Numbers.{Two-sided, plus, minus, times, divide, equals, smaller, greater, is-false}
 
 pub data Instruction : Type 0 where
@@ -15,50 +16,6 @@ pub data Instruction : Type 0 where
   two-sided : Two-sided → Instruction
   negate not read print-int : Instruction
   print-str print-str-ln : ℕ → Instruction
-
--- ---- from a pair to its instruction; none for bad code
-
--- an unused operand is 0
-unfoldable pub alone : Instruction → ℤ → Option Instruction
-alone i a = cond (is-false a) (some i) none
-
--- a negative operand is bad
-unfoldable pub natural : (ℕ → Instruction) → ℤ → Option Instruction
-natural f (pos n) = some (f n)
-natural f (negsuc n) = none
-
--- a Halt's operand is 0 or 1
-unfoldable pub halting : ℤ → Option Instruction
-halting (pos n) = cond (ltb n 2) (some (halt n)) none
-halting (negsuc n) = none
-
--- 0 is no operation, and so is any number past 19
-unfoldable pub operation : ℕ → ℤ → Option Instruction
-operation n a =
-    cond (eqb n 1) (halting a)
-    (cond (eqb n 2) (some (push-int a))
-    (cond (eqb n 3) (natural load-stack a)
-    (cond (eqb n 4) (natural store-stack a)
-    (cond (eqb n 5) (natural jump a)
-    (cond (eqb n 6) (natural jump-if-false a)
-    (cond (eqb n 7) (alone (two-sided plus) a)
-    (cond (eqb n 8) (alone (two-sided minus) a)
-    (cond (eqb n 9) (alone (two-sided times) a)
-    (cond (eqb n 10) (alone (two-sided divide) a)
-    (cond (eqb n 11) (alone (two-sided equals) a)
-    (cond (eqb n 12) (alone (two-sided smaller) a)
-    (cond (eqb n 13) (alone (two-sided greater) a)
-    (cond (eqb n 14) (alone negate a)
-    (cond (eqb n 15) (alone not a)
-    (cond (eqb n 16) (alone read a)
-    (cond (eqb n 17) (alone print-int a)
-    (cond (eqb n 18) (natural print-str a)
-    (cond (eqb n 19) (natural print-str-ln a)
-    none))))))))))))))))))
-
-unfoldable pub decode : ℤ → ℤ → Option Instruction
-decode (pos n) a = operation n a
-decode (negsuc n) a = none
 
 -- ---- from an instruction to its pair
 
@@ -91,3 +48,83 @@ pair (print-str-ln s) t = pos 19 ∷ pos s ∷ t
 unfoldable pub numbers : List Instruction → List ℤ
 numbers [] = []
 numbers (i ∷ is) = pair i (numbers is)
+
+-- ---- from a pair to its instruction; none for bad code
+
+-- an unused operand is 0
+unfoldable pub alone : Instruction → ℤ → Option Instruction
+alone i a = cond (is-false a) (some i) none
+
+-- a negative operand is bad
+unfoldable pub natural : (ℕ → Instruction) → ℤ → Option Instruction
+natural f (pos n) = some (f n)
+natural f (negsuc n) = none
+
+-- a Halt's operand is 0 or 1
+unfoldable pub halting : ℤ → Option Instruction
+halting (pos n) = cond (ltb n 2) (some (halt n)) none
+halting (negsuc n) = none
+
+-- the number of an instruction's operation, which stands in the table above
+unfoldable pub opcode : Instruction → ℕ
+opcode i = natAbs (getD (pair i []) 0 (pos 0))
+
+-- each operation by its number; 0 is none, and so is any number past the last
+unfoldable pub operation : ℕ → ℤ → Option Instruction
+operation n a =
+    cond (eqb n (opcode (halt 0))) (halting a)
+    (cond (eqb n (opcode (push-int a))) (some (push-int a))
+    (cond (eqb n (opcode (load-stack 0))) (natural load-stack a)
+    (cond (eqb n (opcode (store-stack 0))) (natural store-stack a)
+    (cond (eqb n (opcode (jump 0))) (natural jump a)
+    (cond (eqb n (opcode (jump-if-false 0))) (natural jump-if-false a)
+    (cond (eqb n (opcode (two-sided plus))) (alone (two-sided plus) a)
+    (cond (eqb n (opcode (two-sided minus))) (alone (two-sided minus) a)
+    (cond (eqb n (opcode (two-sided times))) (alone (two-sided times) a)
+    (cond (eqb n (opcode (two-sided divide))) (alone (two-sided divide) a)
+    (cond (eqb n (opcode (two-sided equals))) (alone (two-sided equals) a)
+    (cond (eqb n (opcode (two-sided smaller))) (alone (two-sided smaller) a)
+    (cond (eqb n (opcode (two-sided greater))) (alone (two-sided greater) a)
+    (cond (eqb n (opcode negate)) (alone negate a)
+    (cond (eqb n (opcode not)) (alone not a)
+    (cond (eqb n (opcode read)) (alone read a)
+    (cond (eqb n (opcode print-int)) (alone print-int a)
+    (cond (eqb n (opcode (print-str 0))) (natural print-str a)
+    (cond (eqb n (opcode (print-str-ln 0))) (natural print-str-ln a)
+    none))))))))))))))))))
+
+unfoldable pub decode : ℤ → ℤ → Option Instruction
+decode (pos n) a = operation n a
+decode (negsuc n) a = none
+
+-- ---- what each takes from the stack, and what it gives
+
+unfoldable pub takes : Instruction → ℕ
+takes (halt h) = 0
+takes (push-int v) = 0
+takes (load-stack k) = 0
+takes (store-stack k) = 1
+takes (jump a) = 0
+takes (jump-if-false a) = 1
+takes (two-sided o) = 2
+takes negate = 1
+takes not = 1
+takes read = 0
+takes print-int = 1
+takes (print-str s) = 0
+takes (print-str-ln s) = 0
+
+unfoldable pub gives : Instruction → ℕ
+gives (halt h) = 0
+gives (push-int v) = 1
+gives (load-stack k) = 1
+gives (store-stack k) = 0
+gives (jump a) = 0
+gives (jump-if-false a) = 0
+gives (two-sided o) = 1
+gives negate = 1
+gives not = 1
+gives read = 1
+gives print-int = 0
+gives (print-str s) = 0
+gives (print-str-ln s) = 0

@@ -2,11 +2,10 @@
 ghost use mathlib.Core.Path.{_≡_};
 ghost use mathlib.Core.Bool.{cond};
 ghost use mathlib.Core.Option.{none};
-ghost use lib.Dec.{eqb};
-ghost use lib.IntN.{pos};
+ghost use Rattle.instruction.specs.Numbers.{is-false};
 ghost use Rattle.instruction.specs.Instructions.{halting, decode};
 ghost use Rattle.instruction.specs.Coded.{as-instruction};
-use super::arith::Operator;
+use super::operations;
 
 pub enum Op {
     Bad,
@@ -16,7 +15,13 @@ pub enum Op {
     StoreStack(usize),
     Jump(usize),
     JumpIfFalse(usize),
-    Two(Operator),
+    Plus,
+    Minus,
+    Times,
+    Divide,
+    Equals,
+    Smaller,
+    Greater,
     Negate,
     Not,
     Read,
@@ -26,50 +31,69 @@ pub enum Op {
 }
 
 // An unused operand is 0.
-fn alone(o: Op, n: usize) -> Op
-    ensures { λ r. ⌜ as-instruction r ≡ cond (eqb n 0) (as-instruction o) none ⌝ }
+fn alone(o: Op, a: i32) -> Op
+    ensures { λ r. ⌜ as-instruction r ≡ cond (is-false a) (as-instruction o) none ⌝ }
 {
-    if n == 0 { o } else { Op::Bad }
+    if a == 0 { o } else { Op::Bad }
 }
 
 // A Halt's operand is 0 or 1.
-fn halting(n: usize) -> Op
-    ensures { λ r. ⌜ as-instruction r ≡ halting (pos n) ⌝ }
+fn halting(a: i32) -> Op
+    ensures { λ r. ⌜ as-instruction r ≡ halting a ⌝ }
 {
-    if n < 2 { Op::Halt(n as u8) } else { Op::Bad }
+    if a == 0 {
+        return Op::Halt(0);
+    }
+    if a == 1 {
+        return Op::Halt(1);
+    }
+    Op::Bad
 }
 
-// Only PushInt takes an operand below zero.
+// Each operation tests its own operand, so that a step tests nothing that belongs to another.
 pub fn decode(operation: i32, a: i32) -> Op
     ensures { λ r. ⌜ as-instruction r ≡ decode operation a ⌝ }
 {
-    if a < 0 {
-        if operation == 2 {
-            return Op::PushInt(a);
-        }
-        return Op::Bad;
-    }
-    let n = a as usize;
     match operation {
-        1 => halting(n),
-        2 => Op::PushInt(a),
-        3 => Op::LoadStack(n),
-        4 => Op::StoreStack(n),
-        5 => Op::Jump(n),
-        6 => Op::JumpIfFalse(n),
-        7 => alone(Op::Two(Operator::Plus), n),
-        8 => alone(Op::Two(Operator::Minus), n),
-        9 => alone(Op::Two(Operator::Times), n),
-        10 => alone(Op::Two(Operator::Divide), n),
-        11 => alone(Op::Two(Operator::Equals), n),
-        12 => alone(Op::Two(Operator::Smaller), n),
-        13 => alone(Op::Two(Operator::Greater), n),
-        14 => alone(Op::Negate, n),
-        15 => alone(Op::Not, n),
-        16 => alone(Op::Read, n),
-        17 => alone(Op::PrintInt, n),
-        18 => Op::PrintStr(n),
-        19 => Op::PrintStrLn(n),
+        operations::HALT => halting(a),
+        operations::PUSH_INT => Op::PushInt(a),
+        operations::LOAD_STACK => if a < 0 {
+            Op::Bad
+        } else {
+            Op::LoadStack(a as usize)
+        },
+        operations::STORE_STACK => if a < 0 {
+            Op::Bad
+        } else {
+            Op::StoreStack(a as usize)
+        },
+        operations::JUMP => if a < 0 { Op::Bad } else { Op::Jump(a as usize) },
+        operations::JUMP_IF_FALSE => if a < 0 {
+            Op::Bad
+        } else {
+            Op::JumpIfFalse(a as usize)
+        },
+        operations::PLUS => alone(Op::Plus, a),
+        operations::MINUS => alone(Op::Minus, a),
+        operations::TIMES => alone(Op::Times, a),
+        operations::DIVIDE => alone(Op::Divide, a),
+        operations::EQUALS => alone(Op::Equals, a),
+        operations::SMALLER => alone(Op::Smaller, a),
+        operations::GREATER => alone(Op::Greater, a),
+        operations::NEGATE => alone(Op::Negate, a),
+        operations::NOT => alone(Op::Not, a),
+        operations::READ => alone(Op::Read, a),
+        operations::PRINT_INT => alone(Op::PrintInt, a),
+        operations::PRINT_STR => if a < 0 {
+            Op::Bad
+        } else {
+            Op::PrintStr(a as usize)
+        },
+        operations::PRINT_STR_LN => if a < 0 {
+            Op::Bad
+        } else {
+            Op::PrintStrLn(a as usize)
+        },
         _ => Op::Bad,
     }
 }

@@ -11,7 +11,7 @@ use Rattle.lexeme.proofs.Ahead.{lexemes-each}
 use Rattle.sentence.specs.Sentences.{Kind, Sen, command, spell, program, literal, variable, bracket, first, multiply, unsigned, signed, add, negated, compare, print, print-line, print-string, declare, input, assign, error, while, when, block, single, then}
 use Rattle.sentence.specs.Grammar.{Whole, whats}
 use Rattle.sentence.specs.Parts.{Each}
-use Rattle.machine.specs.Machine.{string-from}
+use Rattle.machine.specs.Machine as M
 use Rattle.meaning.specs.Fits.{In-text}
 
 module _ (text : List ℕ) where
@@ -24,7 +24,7 @@ module _ (text : List ℕ) where
   Good (fixed f) = Unit {0}
 
   next-good : (at : ℕ) (m : Placed) (e : ℕ) → next text at ≡ given (lexeme m e) → Good (m .what)
-  unfolding string-from
+  unfolding M.string M.closed M.string-from
   next-good at m e n = by (m .what) (next-fits text at m e n .1 .written)
     where
       by : (l : Lexeme) → Written text (m .place) e l → Good l

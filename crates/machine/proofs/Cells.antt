@@ -1,12 +1,13 @@
 -- The live cells as the definitions have them, the top first, and the cells as the code writes them. Assumes nothing.
-use mathlib.Core.Path.{_≡_, refl, sym, ap, _∙_}
+use mathlib.Core.Path.{_≡_, refl, sym, ap}
 use mathlib.Core.List.{List, [], _∷_}
 use mathlib.Core.Bool.{Bool, true, false, cond}
 use Prim.Native.Nat.{ℕ, zero, suc, _-_, _≤_, _<_}
+use native.Mathlib.Nat.{sub-zero}
 use native.Mathlib.Omega.{arith}
 use lib.Dec.{eqb}
 use lib.IntN.{ℤ, pos}
-use lib.ListN.{length, getD, set}
+use lib.ListN.{length, getD, drop, set}
 use lib.Seq.{getD-set-same, getD-set-other}
 use borrow.Author.Tests.{eqb-true, eqb-false}
 use Rattle.machine.specs.Machine.{peek, poke}
@@ -28,20 +29,25 @@ pub live-push : (d : ℕ) (cells : List ℤ) (v : ℤ) → d < length cells → 
 unfolding live
 live-push d cells v h = rw (getD-set-same cells d v (pos 0) h, live-above d d cells v (omega arith))
 
-pub live-none : (d : ℕ) (cells : List ℤ) → d < 1 → live d cells ≡ []
-unfolding live
-live-none zero cells h = refl
-live-none (suc d) cells h = absurd (omega arith)
-
-pub live-top : (d : ℕ) (cells : List ℤ) → 1 ≤ d → live d cells ≡ getD cells (d - 1) (pos 0) ∷ live (d - 1) cells
+live-top : (d : ℕ) (cells : List ℤ) → 1 ≤ d → live d cells ≡ getD cells (d - 1) (pos 0) ∷ live (d - 1) cells
 unfolding live
 live-top zero cells h = absurd (omega arith)
 live-top (suc d) cells h = let e : suc d - 1 ≡ d = omega arith in rw e
 
-pub live-two : (d : ℕ) (cells : List ℤ) → 2 ≤ d → live d cells ≡ getD cells (d - 1) (pos 0) ∷ (getD cells (d - 2) (pos 0) ∷ live (d - 2) cells)
-live-two d cells h =
+-- the values on top, and what is below them
+pub live-first : (d : ℕ) (cells : List ℤ) → 1 ≤ d → getD (live d cells) 0 (pos 0) ≡ getD cells (d - 1) (pos 0)
+live-first d cells h = rw (live-top d cells h)
+
+pub live-second : (d : ℕ) (cells : List ℤ) → 2 ≤ d → getD (live d cells) 1 (pos 0) ≡ getD cells (d - 2) (pos 0)
+live-second d cells h =
     let e : d - 1 - 1 ≡ d - 2 = omega arith in
-    live-top d cells (omega arith) ∙ rw (live-top (d - 1) cells (omega arith), e)
+    rw (live-top d cells (omega arith), live-top (d - 1) cells (omega arith), e)
+
+pub live-drop : (n d : ℕ) (cells : List ℤ) → n ≤ d → drop n (live d cells) ≡ live (d - n) cells
+unfolding live
+live-drop zero d cells h = rw (sub-zero d)
+live-drop (suc n) zero cells h = absurd (omega arith)
+live-drop (suc n) (suc d) cells h = let e : suc d - suc n ≡ d - n = omega arith in rw e (live-drop n d cells (omega arith))
 
 module _ (k d : ℕ) (cells : List ℤ) where
   peek-by : (t : Bool) → eqb k d ≡ t → (k < d → peek k (live d cells) ≡ getD cells k (pos 0)) → k < suc d → cond t (getD cells d (pos 0)) (peek k (live d cells)) ≡ getD cells k (pos 0)

@@ -3,16 +3,15 @@ use mathlib.Core.Path.{_≡_, refl, sym, ap, _∙_}
 use mathlib.Core.List.{List, _++_, append-assoc}
 use Prim.Native.Nat.{ℕ, _+_, _≤_, _<_}
 use native.Mathlib.Nat.{add-assoc, le-refl}
-use native.Mathlib.Numerals.{add-one}
 use native.Mathlib.Omega.{arith}
 use lib.IntN.{ℤ}
 use lib.ListN.{length, take, drop, length-append}
 use lib.Seq.{paste, take-paste, drop-paste, length-paste, take-length, length-take-le, drop-drop}
 use borrow.Author.Tests.{le-leb, lt-leb}
-use Rattle.machine.specs.Machine.{Lent, printed, written}
+use Rattle.machine.specs.Machine.{Lent, printed, written, prints}
 use Rattle.machine.specs.declared.state.State.{State}
 use Rattle.machine.specs.declared.state.Move.the-variants.{Go, Stop}
-use Rattle.machine.specs.Coded.{Rule, Good, Did}
+use Rattle.machine.specs.Coded.{Good, Did}
 
 -- the room with bs from the place at on, and then more
 abbrev pub with-both : List ℕ → ℕ → List ℕ → List ℕ → List ℕ
@@ -51,27 +50,25 @@ further : (at k : ℕ) (a b : List ℕ) → drop at a ≡ drop at b → drop (at
 further at k a b e = sym (drop-drop k at a) ∙ (ap (drop k) e ∙ drop-drop k at b)
 
 module _ {lent : Lent} {before : List ℕ} {s : State} {cells : List ℤ} {room : List ℕ} (g : Good lent before s cells room) (bs more : List ℕ) where
-  abbrev pub writes : Rule
-  writes at st o = written lent at st (printed (lent .room) (bs ++ more) o)
-
-  pub no-fit : length room < s .printed + (length bs + length more) → Did lent before writes s cells room (Stop 7) cells room
-  unfolding written printed
+  pub no-fit : length room < s .printed + (length bs + length more) → Did lent before (prints lent (bs ++ more)) s cells room (Stop 7) cells room
+  unfolding prints written printed
   no-fit h = record {
     seen = rw (length-take-le (s .printed) room (g .within), length-append bs more, ← g .size, lt-leb (s .printed + (length bs + length more)) (length room) h);
     left = refl;
   }
 
-  pub fits : s .printed + (length bs + length more) ≤ length room → Did lent before writes s cells room (Go (record { place = s .place + 1; depth = s .depth; used = s .used; printed = s .printed + (length bs + length more) })) cells (with-both room (s .printed) bs more)
-  unfolding written printed
+  pub fits : s .printed + (length bs + length more) ≤ length room → Did lent before (prints lent (bs ++ more)) s cells room (Go (record { index = s .index; depth = s .depth; used = s .used; printed = s .printed + (length bs + length more) })) cells (with-both room (s .printed) bs more)
+  unfolding prints written printed
   fits h =
       let l = length-both room (s .printed) bs more h in
       record {
-        seen = rw (length-take-le (s .printed) room (g .within), length-append bs more, ← g .size, le-leb (s .printed + (length bs + length more)) (length room) h, add-one (s .place), take-both room (s .printed) bs more h);
+        seen = rw (length-take-le (s .printed) room (g .within), length-append bs more, ← g .size, le-leb (s .printed + (length bs + length more)) (length room) h, take-both room (s .printed) bs more h);
         left = record {
           deep = g .deep;
           stack = g .stack;
           within = omega arith;
           size = l ∙ g .size;
+          whole = g .whole;
           past = drop-both room (s .printed) bs more h ∙ further (s .printed) (length bs + length more) room before (g .past);
         };
       }

@@ -1,24 +1,24 @@
 -- Laws of a run, at the place where the loop stands. Assumes nothing.
 use mathlib.Core.Path.{_≡_, refl, sym, _∙_}
-use mathlib.Core.List.{List, []}
+use mathlib.Core.List.{List}
 use Prim.Native.Nat.{ℕ, suc, _-_, _%_}
 use lib.IntN.{ℤ}
 use lib.ListN.{length, take, take-append-drop}
 use lib.Seq.{length-take-le}
 use borrow.Author.Tests.{eq-eqb, ne-eqb}
 use Rattle.instruction.specs.Endings.{bad-code}
-use Rattle.machine.specs.Machine.{Lent, Outside, go, stop, step, untouched, End, run, Report, report, bad-table, whole-run, room-after}
+use Rattle.machine.specs.Machine.{Lent, Machine, fresh, go, stop, step, Stopped, run, end-of, Report, report, bad-table, whole-run, room-after}
 use Rattle.machine.specs.declared.Report as Code
 use Rattle.machine.specs.declared.state.State.{State}
-use Rattle.machine.specs.Coded.{outside, Good}
+use Rattle.machine.specs.Coded.{machine-of, Good}
 use Rattle.machine.specs.Promise.{Reported, Ran}
 
-module _ (lent : Lent) (n at : ℕ) (st : List ℤ) (o : Outside) where
-  pub run-goes : {at′ : ℕ} {st′ : List ℤ} {o′ : Outside} → go at′ st′ o′ ≡ step lent at st o → run lent (suc n) at st o ≡ run lent n at′ st′ o′
+module _ (lent : Lent) (n : ℕ) (m : Machine) where
+  pub run-goes : {m′ : Machine} → go m′ ≡ step lent m → run lent (suc n) m ≡ run lent n m′
   unfolding run
   run-goes e = rw (← e, run)
 
-  pub run-stops : {e : ℕ} → stop e ≡ step lent at st o → run lent (suc n) at st o ≡ record { ending = e; left = n; outside = o }
+  pub run-stops : {e : ℕ} → stop e ≡ step lent m → run lent (suc n) m ≡ record { ending = e; left = n; machine = m }
   unfolding run
   run-stops e = rw (← e, run) refl
 
@@ -28,7 +28,7 @@ unfolding room-after
 room-is {s = s} {room = room} g = rw (length-take-le (s .printed) room (g .within), ← g .past) (sym (take-append-drop (s .printed) room))
 
 -- where the run ended, so is it reported
-pub reports : {lent : Lent} {before : List ℕ} {s : State} {cells : List ℤ} {room : List ℕ} → Good lent before s cells room → (budget e left steps : ℕ) (w : End) → record { ending = e; left = left; outside = outside s room } ≡ w → steps ≡ budget - left → Reported (report budget w) before (record { ending = e; steps = steps; used = s .used; length = s .printed }) room
+pub reports : {lent : Lent} {before : List ℕ} {s : State} {cells : List ℤ} {room : List ℕ} → Good lent before s cells room → (budget e left steps : ℕ) (w : Stopped) → record { ending = e; left = left; machine = machine-of s cells room } ≡ w → steps ≡ budget - left → Reported (report budget (end-of w)) before (record { ending = e; steps = steps; used = s .used; length = s .printed }) room
 unfolding report
 reports {s = s} {room = room} g budget e left steps w p q = rw (← p) (record {
   ending = refl;
@@ -44,7 +44,7 @@ module _ (lent : Lent) (budget : ℕ) where
   unfolding whole-run bad-table room-after
   odd-table before h = rw (ne-eqb (length (lent .table) % 2) 0 h) (record { ending = refl; steps = refl; used = refl; size = refl; room = refl })
 
-  pub even-table : length (lent .table) % 2 ≡ 0 → whole-run lent budget ≡ report budget (run lent budget 0 [] untouched)
+  pub even-table : length (lent .table) % 2 ≡ 0 → whole-run lent budget ≡ report budget (end-of (run lent budget fresh))
   unfolding whole-run
   even-table h = rw (eq-eqb (length (lent .table) % 2) 0 h)
 

@@ -1,10 +1,10 @@
 -- How the code holds what the definitions speak of: what each of its values means there.
 use mathlib.Core.Path.{_≡_}
 use mathlib.Core.List.{List, [], _∷_}
-use Prim.Native.Nat.{ℕ, zero, suc, _+_, _^_, _≤_, _<_}
+use Prim.Native.Nat.{ℕ, zero, suc, _/_, _%_, _≤_}
 use lib.IntN.{ℤ, pos}
 use lib.ListN.{length, getD, take, drop}
-use Rattle.machine.specs.Machine.{Lent, Outside, Step, go, stop}
+use Rattle.machine.specs.Machine.{Lent, Outside, Machine, Step, go, stop}
 use Rattle.machine.specs.declared.state.State.{State}
 use Rattle.machine.specs.declared.state.Move.{Move}
 use Rattle.machine.specs.declared.state.Move.the-variants.{Go, Stop}
@@ -16,20 +16,15 @@ unfoldable pub live : ℕ → List ℤ → List ℤ
 live zero cells = []
 live (suc d) cells = getD cells d (pos 0) ∷ live d cells
 
--- what the code needs of a state: its depth is within the stack, and there is a number for the next place
-pub record Ready (s : State) (cells : List ℤ) : Type 0 where
-  pub deep : s .depth ≤ length cells
-  pub next : s .place + 1 < 2 ^ 64
-
 -- ---- the room: a slice, and how many of its bytes were printed
 
 abbrev pub outside : State → List ℕ → Outside
 outside s room = record { used = s .used; output = take (s .printed) room }
 
--- what the code needs of a state to print
-pub record Printing (s : State) (room : List ℕ) : Type 0 where
-  pub within : s .printed ≤ length room
-  pub next : s .place + 1 < 2 ^ 64
+-- ---- the machine: its place is that of the pair which starts at an index of the table
+
+abbrev pub machine-of : State → List ℤ → List ℕ → Machine
+machine-of s cells room = record { place = s .index / 2; stack = live (s .depth) cells; outside = outside s room }
 
 -- a state of a run that is lent `lent`, with the stack and the room as they are, where the room was `before` when the run began
 pub record Good (lent : Lent) (before : List ℕ) (s : State) (cells : List ℤ) (room : List ℕ) : Type 0 where
@@ -38,14 +33,15 @@ pub record Good (lent : Lent) (before : List ℕ) (s : State) (cells : List ℤ)
   pub within : s .printed ≤ length room
   pub size : length room ≡ lent .room
   pub past : drop (s .printed) room ≡ drop (s .printed) before
+  pub whole : s .index % 2 ≡ 0
 
 -- ---- a step
 
 abbrev pub moves-to : State → ℕ → ℕ → State
-moves-to s place depth = record { place = place; depth = depth; used = s .used; printed = s .printed }
+moves-to s index depth = record { index = index; depth = depth; used = s .used; printed = s .printed }
 
 abbrev pub as-step : Move → List ℤ → List ℕ → Step
-as-step (Go t) cells room = go (t .place) (live (t .depth) cells) (outside t room)
+as-step (Go t) cells room = go (machine-of t cells room)
 as-step (Stop e) cells room = stop e
 
 -- a step goes on from a good state, or it stops and leaves the room as it was
@@ -53,13 +49,13 @@ abbrev pub Left : Lent → List ℕ → List ℕ → Move → List ℤ → List 
 Left lent before room (Go t) cells′ room′ = Good lent before t cells′ room′
 Left lent before room (Stop e) cells′ room′ = room′ ≡ room
 
--- what an instruction does at a place, with a stack
+-- what is done at a machine
 abbrev pub Rule : Type 0
-Rule = ℕ → List ℤ → Outside → Step
+Rule = Machine → Step
 
 -- the answer r, with the stack and the room as they are after it, is what the rule says
 pub record Did (lent : Lent) (before : List ℕ) (rule : Rule) (s : State) (cells : List ℤ) (room : List ℕ) (r : Move) (cells′ : List ℤ) (room′ : List ℕ) : Type 0 where
-  pub seen : as-step r cells′ room′ ≡ rule (s .place) (live (s .depth) cells) (outside s room)
+  pub seen : as-step r cells′ room′ ≡ rule (machine-of s cells room)
   pub left : Left lent before room r cells′ room′
 
 -- from a good state, in a room that was `before` when the run began, r is what the rule says

@@ -1,5 +1,7 @@
 // The machine: any code table, one numbered ending.
-ghost use mathlib.Core.List.{[]};
+ghost use mathlib.Core.Path.{_≡_};
+ghost use lib.ListN.{length};
+ghost use Prim.Native.Nat.{_%_};
 ghost use Rattle.machine.specs.Machine.{whole-run};
 ghost use Rattle.machine.specs.Machine as M;
 ghost use Rattle.machine.specs.Promise.{lends, Reported, Ran};
@@ -29,10 +31,11 @@ fn follow(
     stack: &mut [i32],
     out: &mut [u8],
 ) -> Report
-    ensures { λ r. ⌜ Reported (M.report budget (M.run (lends (now (text .entry)) (now (table .entry)) (now (readings .entry)) (now (stack .entry)) (now (out .entry))) budget 0 [] M.untouched)) (now (out .entry)) r (now (out .exit)) ⌝ }
+    requires { ⌜ length (now table) % 2 ≡ 0 ⌝ }
+    ensures { λ r. ⌜ Reported (M.report budget (M.end-of (M.run (lends (now (text .entry)) (now (table .entry)) (now (readings .entry)) (now (stack .entry)) (now (out .entry))) budget M.fresh))) (now (out .entry)) r (now (out .exit)) ⌝ }
 {
     let mut s = State {
-        place: 0,
+        index: 0,
         depth: 0,
         used: 0,
         printed: 0,

@@ -1,13 +1,14 @@
 // The instructions that print. A print that does not fit the room prints nothing.
 ghost use mathlib.Core.Path.{_≡_};
-ghost use mathlib.Core.List.{List, _++_};
-ghost use lib.IntN.{ℤ};
+ghost use mathlib.Core.List.{_++_};
+ghost use mathlib.Core.Bool.{cond};
 ghost use lib.ListN.{length};
 ghost use lib.Seq.{paste};
-ghost use Prim.Native.Nat.{ℕ, _+_, _≤_};
-ghost use Rattle.machine.specs.Machine.{Lent, Outside, does, printed, written, quoted, string-from};
+ghost use Prim.Native.Nat.{_+_, _≤_};
+ghost use Rattle.machine.specs.Machine.{Lent, Machine, stop, tried, prints, string, closed};
+ghost use Rattle.instruction.specs.Endings.{bad-code};
 ghost use Rattle.instruction.specs.Instructions.{print-int};
-ghost use Rattle.machine.specs.Coded.{Ready, Printing, Prints, Stepped};
+ghost use Rattle.machine.specs.Coded.{Prints, Stepped};
 use super::decimal::put_decimal;
 use super::state::Move;
 use super::state::State;
@@ -29,8 +30,8 @@ fn copy(out: &mut [u8], at: usize, bytes: &[u8])
 
 // Bytes and what follows them, both or neither.
 fn write(s: State, bytes: &[u8], more: &[u8], out: &mut [u8]) -> Move
-    requires { ⌜ Printing s (now out) ⌝ }
-    ensures { λ r. ⌜ ((lent : Lent) → Prints lent (λ (at : ℕ) (st : List ℤ) (o : Outside). written lent at st (printed (lent .room) (now (bytes .entry) ++ now (more .entry)) o)) s (now (out .entry)) r (now (out .exit))) ⌝ }
+    requires { ⌜ s .printed ≤ length (now out) ⌝ }
+    ensures { λ r. ⌜ ((lent : Lent) → Prints lent (prints lent (now (bytes .entry) ++ now (more .entry))) s (now (out .entry)) r (now (out .exit))) ⌝ }
 {
     let at = s.printed;
     let n = bytes.len() + more.len();
@@ -40,7 +41,7 @@ fn write(s: State, bytes: &[u8], more: &[u8], out: &mut [u8]) -> Move
     copy(out, at, bytes);
     copy(out, at + bytes.len(), more);
     Move::Go(State {
-        place: s.place + 1,
+        index: s.index,
         depth: s.depth,
         used: s.used,
         printed: at + n,
@@ -48,8 +49,8 @@ fn write(s: State, bytes: &[u8], more: &[u8], out: &mut [u8]) -> Move
 }
 
 pub fn print_str(s: State, text: &[u8], q: usize, more: &[u8], out: &mut [u8]) -> Move
-    requires { ⌜ Printing s (now out) ⌝ }
-    ensures { λ r. ⌜ ((lent : Lent) → Prints lent (λ (at : ℕ) (st : List ℤ) (o : Outside). quoted lent at (now (more .entry)) st o (string-from (now (text .entry)) q)) s (now (out .entry)) r (now (out .exit))) ⌝ }
+    requires { ⌜ s .printed ≤ length (now out) ⌝ }
+    ensures { λ r. ⌜ ((lent : Lent) → Prints lent (λ (m : Machine). cond (closed (now (text .entry)) q) (prints lent (string (now (text .entry)) q ++ now (more .entry)) m) (stop bad-code)) s (now (out .entry)) r (now (out .exit))) ⌝ }
 {
     let end = base::run_end(text, q, Such::NoQuote);
     if text.len() <= end {
@@ -59,8 +60,8 @@ pub fn print_str(s: State, text: &[u8], q: usize, more: &[u8], out: &mut [u8]) -
 }
 
 pub fn print_int(s: State, stack: &[i32], out: &mut [u8]) -> Move
-    requires { ⌜ Ready s (now stack) × Printing s (now out) ⌝ }
-    ensures { λ r. ⌜ ((lent : Lent) → Stepped lent (does lent print-int) s (now (stack .entry)) (now (out .entry)) r (now (stack .entry)) (now (out .exit))) ⌝ }
+    requires { ⌜ (s .depth ≤ length (now stack)) × (s .printed ≤ length (now out)) ⌝ }
+    ensures { λ r. ⌜ ((lent : Lent) → Stepped lent (tried lent print-int) s (now (stack .entry)) (now (out .entry)) r (now (stack .entry)) (now (out .exit))) ⌝ }
 {
     let depth = s.depth;
     if depth < 1 {
@@ -68,6 +69,6 @@ pub fn print_int(s: State, stack: &[i32], out: &mut [u8]) -> Move
     }
     let mut buffer = [0u8; 11];
     let from = put_decimal(stack[depth - 1], &mut buffer);
-    let t = moved(s, s.place, depth - 1);
+    let t = moved(s, s.index, depth - 1);
     write(t, &buffer[from..], b"", out)
 }

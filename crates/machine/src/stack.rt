@@ -1,40 +1,41 @@
-// The instructions that print nothing, a function for each group. Each tests for bad code, then for stack room, then for its own ending.
+// The instructions that print nothing, a function for each group, at a state that is past the instruction.
+// Each tests for bad code, then for stack room, then for its own ending.
 ghost use mathlib.Core.Path.{_≡_};
 ghost use mathlib.Core.List.{List};
 ghost use lib.IntN.{ℤ};
 ghost use lib.ListN.{length};
-ghost use Prim.Native.Nat.{ℕ, _<_};
-ghost use Rattle.machine.specs.Machine.{Lent, Outside, does, resulting, pairs};
+ghost use Prim.Native.Nat.{_*_, _^_, _≤_, _<_};
+ghost use Rattle.machine.specs.Machine.{Lent, Machine, resulting, pairs, tried};
 ghost use Rattle.instruction.specs.Instructions.{push-int, load-stack, store-stack, jump, jump-if-false, two-sided, negate, not, read};
 ghost use Rattle.instruction.specs.Coded.{as-result, as-two-sided};
-ghost use Rattle.machine.specs.Coded.{live, Ready, Does};
+ghost use Rattle.machine.specs.Coded.{live, Does};
 use super::state::Move;
 use super::state::State;
 use super::state::moved;
 use instruction::arith::Calculated;
 use instruction::arith::Operator;
 use instruction::arith::calculate;
-use instruction::arith::in_range;
+use instruction::arith::negated;
 use instruction::arith::truth;
 use instruction::endings;
 
 // What a calculation gives, on the d lowest cells.
 fn put(s: State, stack: &mut [i32], d: usize, n: Calculated) -> Move
-    requires { ⌜ Ready s (now stack) × (d < length (now stack)) ⌝ }
-    ensures { λ r. ⌜ ((lent : Lent) → Does lent (λ (at : ℕ) (st : List ℤ) (o : Outside). resulting lent at (as-result n) (live d (now (stack .entry))) o) s (now (stack .entry)) r (now (stack .exit))) ⌝ }
+    requires { ⌜ (s .depth ≤ length (now stack)) × (d < length (now stack)) ⌝ }
+    ensures { λ r. ⌜ ((lent : Lent) → Does lent (λ (m : Machine). resulting (as-result n) (record { place = m .place; stack = live d (now (stack .entry)); outside = m .outside })) s (now (stack .entry)) r (now (stack .exit))) ⌝ }
 {
     match n {
         Calculated::Value(v) => {
             stack[d] = v;
-            Move::Go(moved(s, s.place + 1, d + 1))
+            Move::Go(moved(s, s.index, d + 1))
         }
         Calculated::Ends(e) => Move::Stop(e),
     }
 }
 
 pub fn push_int(s: State, stack: &mut [i32], v: i32) -> Move
-    requires { ⌜ Ready s (now stack) ⌝ }
-    ensures { λ r. ⌜ ((lent : Lent) → Does lent (does lent (push-int v)) s (now (stack .entry)) r (now (stack .exit))) ⌝ }
+    requires { ⌜ s .depth ≤ length (now stack) ⌝ }
+    ensures { λ r. ⌜ ((lent : Lent) → Does lent (tried lent (push-int v)) s (now (stack .entry)) r (now (stack .exit))) ⌝ }
 {
     let depth = s.depth;
     if stack.len() <= depth {
@@ -44,8 +45,8 @@ pub fn push_int(s: State, stack: &mut [i32], v: i32) -> Move
 }
 
 pub fn load_stack(s: State, stack: &mut [i32], k: usize) -> Move
-    requires { ⌜ Ready s (now stack) ⌝ }
-    ensures { λ r. ⌜ ((lent : Lent) → Does lent (does lent (load-stack k)) s (now (stack .entry)) r (now (stack .exit))) ⌝ }
+    requires { ⌜ s .depth ≤ length (now stack) ⌝ }
+    ensures { λ r. ⌜ ((lent : Lent) → Does lent (tried lent (load-stack k)) s (now (stack .entry)) r (now (stack .exit))) ⌝ }
 {
     if s.depth <= k {
         return Move::Stop(endings::BAD_CODE);
@@ -55,8 +56,8 @@ pub fn load_stack(s: State, stack: &mut [i32], k: usize) -> Move
 }
 
 pub fn store_stack(s: State, stack: &mut [i32], k: usize) -> Move
-    requires { ⌜ Ready s (now stack) ⌝ }
-    ensures { λ r. ⌜ ((lent : Lent) → Does lent (does lent (store-stack k)) s (now (stack .entry)) r (now (stack .exit))) ⌝ }
+    requires { ⌜ s .depth ≤ length (now stack) ⌝ }
+    ensures { λ r. ⌜ ((lent : Lent) → Does lent (tried lent (store-stack k)) s (now (stack .entry)) r (now (stack .exit))) ⌝ }
 {
     let depth = s.depth;
     if depth < 1 {
@@ -66,21 +67,22 @@ pub fn store_stack(s: State, stack: &mut [i32], k: usize) -> Move
         return Move::Stop(endings::BAD_CODE);
     }
     stack[k] = stack[depth - 1];
-    Move::Go(moved(s, s.place + 1, depth - 1))
+    Move::Go(moved(s, s.index, depth - 1))
 }
 
 pub fn jump(s: State, count: usize, a: usize) -> Move
-    ensures { λ r. ⌜ ((lent : Lent) (cells : List ℤ) → count ≡ pairs lent → Does lent (does lent (jump a)) s cells r cells) ⌝ }
+    requires { ⌜ count * 2 < 2 ^ 64 ⌝ }
+    ensures { λ r. ⌜ ((lent : Lent) (cells : List ℤ) → count ≡ pairs lent → Does lent (tried lent (jump a)) s cells r cells) ⌝ }
 {
     if count <= a {
         return Move::Stop(endings::BAD_CODE);
     }
-    Move::Go(moved(s, a, s.depth))
+    Move::Go(moved(s, a * 2, s.depth))
 }
 
 pub fn jump_if_false(s: State, stack: &[i32], count: usize, a: usize) -> Move
-    requires { ⌜ Ready s (now stack) ⌝ }
-    ensures { λ r. ⌜ ((lent : Lent) → count ≡ pairs lent → Does lent (does lent (jump-if-false a)) s (now (stack .entry)) r (now (stack .entry))) ⌝ }
+    requires { ⌜ (s .depth ≤ length (now stack)) × (count * 2 < 2 ^ 64) ⌝ }
+    ensures { λ r. ⌜ ((lent : Lent) → count ≡ pairs lent → Does lent (tried lent (jump-if-false a)) s (now (stack .entry)) r (now (stack .entry))) ⌝ }
 {
     let depth = s.depth;
     if depth < 1 {
@@ -90,14 +92,14 @@ pub fn jump_if_false(s: State, stack: &[i32], count: usize, a: usize) -> Move
         return Move::Stop(endings::BAD_CODE);
     }
     if stack[depth - 1] == 0 {
-        return Move::Go(moved(s, a, depth - 1));
+        return Move::Go(moved(s, a * 2, depth - 1));
     }
-    Move::Go(moved(s, s.place + 1, depth - 1))
+    Move::Go(moved(s, s.index, depth - 1))
 }
 
 pub fn two_sided(s: State, stack: &mut [i32], k: Operator) -> Move
-    requires { ⌜ Ready s (now stack) ⌝ }
-    ensures { λ r. ⌜ ((lent : Lent) → Does lent (does lent (two-sided (as-two-sided k))) s (now (stack .entry)) r (now (stack .exit))) ⌝ }
+    requires { ⌜ s .depth ≤ length (now stack) ⌝ }
+    ensures { λ r. ⌜ ((lent : Lent) → Does lent (tried lent (two-sided (as-two-sided k))) s (now (stack .entry)) r (now (stack .exit))) ⌝ }
 {
     let depth = s.depth;
     if depth < 2 {
@@ -109,20 +111,20 @@ pub fn two_sided(s: State, stack: &mut [i32], k: Operator) -> Move
 }
 
 pub fn negate(s: State, stack: &mut [i32]) -> Move
-    requires { ⌜ Ready s (now stack) ⌝ }
-    ensures { λ r. ⌜ ((lent : Lent) → Does lent (does lent negate) s (now (stack .entry)) r (now (stack .exit))) ⌝ }
+    requires { ⌜ s .depth ≤ length (now stack) ⌝ }
+    ensures { λ r. ⌜ ((lent : Lent) → Does lent (tried lent negate) s (now (stack .entry)) r (now (stack .exit))) ⌝ }
 {
     let depth = s.depth;
     if depth < 1 {
         return Move::Stop(endings::BAD_CODE);
     }
     let v = stack[depth - 1];
-    put(s, stack, depth - 1, in_range(-(v as i64)))
+    put(s, stack, depth - 1, negated(v))
 }
 
 pub fn not(s: State, stack: &mut [i32]) -> Move
-    requires { ⌜ Ready s (now stack) ⌝ }
-    ensures { λ r. ⌜ ((lent : Lent) → Does lent (does lent not) s (now (stack .entry)) r (now (stack .exit))) ⌝ }
+    requires { ⌜ s .depth ≤ length (now stack) ⌝ }
+    ensures { λ r. ⌜ ((lent : Lent) → Does lent (tried lent not) s (now (stack .entry)) r (now (stack .exit))) ⌝ }
 {
     let depth = s.depth;
     if depth < 1 {
@@ -133,8 +135,8 @@ pub fn not(s: State, stack: &mut [i32]) -> Move
 }
 
 pub fn read(s: State, readings: &[i32], stack: &mut [i32]) -> Move
-    requires { ⌜ Ready s (now stack) ⌝ }
-    ensures { λ r. ⌜ ((lent : Lent) → now (readings .entry) ≡ lent .readings → Does lent (does lent read) s (now (stack .entry)) r (now (stack .exit))) ⌝ }
+    requires { ⌜ s .depth ≤ length (now stack) ⌝ }
+    ensures { λ r. ⌜ ((lent : Lent) → now (readings .entry) ≡ lent .readings → Does lent (tried lent read) s (now (stack .entry)) r (now (stack .exit))) ⌝ }
 {
     let depth = s.depth;
     let used = s.used;
@@ -145,7 +147,7 @@ pub fn read(s: State, readings: &[i32], stack: &mut [i32]) -> Move
         return Move::Stop(endings::NO_READING_LEFT);
     }
     let t = State {
-        place: s.place,
+        index: s.index,
         depth,
         used: used + 1,
         printed: s.printed,

@@ -1,9 +1,9 @@
-// The machine between two instructions.
+// The machine between two instructions: the index of the next pair in the table, the stack's depth, the readings used, the bytes printed.
 ghost use mathlib.Core.Path.{_≡_};
 ghost use Rattle.machine.specs.Coded.{moves-to};
 
 pub struct State {
-    pub place: usize,
+    pub index: usize,
     pub depth: usize,
     pub used: usize,
     pub printed: usize,
@@ -14,11 +14,11 @@ pub enum Move {
     Stop(u8),
 }
 
-pub fn moved(s: State, place: usize, depth: usize) -> State
-    ensures { λ r. ⌜ r ≡ moves-to s place depth ⌝ }
+pub fn moved(s: State, index: usize, depth: usize) -> State
+    ensures { λ r. ⌜ r ≡ moves-to s index depth ⌝ }
 {
     State {
-        place,
+        index,
         depth,
         used: s.used,
         printed: s.printed,

@@ -1,6 +1,7 @@
 // One instruction, from fetching it to the state after it.
+ghost use mathlib.Core.Path.{_≡_};
 ghost use lib.ListN.{length};
-ghost use Prim.Native.Nat.{_≤_};
+ghost use Prim.Native.Nat.{_%_, _≤_};
 ghost use Rattle.machine.specs.Machine as M;
 ghost use Rattle.machine.specs.Promise.{lends};
 ghost use Rattle.machine.specs.Coded.{Stepped};
@@ -8,27 +9,34 @@ use super::print;
 use super::stack;
 use super::state::Move;
 use super::state::State;
+use instruction::arith::Operator;
 use instruction::decode::Op;
 use instruction::decode::decode;
 use instruction::endings;
 
 pub fn step(
-    s: State,
+    t: State,
     text: &[u8],
     table: &[i32],
     readings: &[i32],
     cells: &mut [i32],
     out: &mut [u8],
 ) -> Move
-    requires { ⌜ (s .depth ≤ length (now cells)) × (s .printed ≤ length (now out)) ⌝ }
-    ensures { λ r. ⌜ Stepped (lends (now (text .entry)) (now (table .entry)) (now (readings .entry)) (now (cells .entry)) (now (out .entry))) (M.step (lends (now (text .entry)) (now (table .entry)) (now (readings .entry)) (now (cells .entry)) (now (out .entry)))) s (now (cells .entry)) (now (out .entry)) r (now (cells .exit)) (now (out .exit)) ⌝ }
+    requires { ⌜ ((t .depth ≤ length (now cells)) × (t .printed ≤ length (now out))) × ((t .index % 2 ≡ 0) × (length (now table) % 2 ≡ 0)) ⌝ }
+    ensures { λ r. ⌜ Stepped (lends (now (text .entry)) (now (table .entry)) (now (readings .entry)) (now (cells .entry)) (now (out .entry))) (M.step (lends (now (text .entry)) (now (table .entry)) (now (readings .entry)) (now (cells .entry)) (now (out .entry)))) t (now (cells .entry)) (now (out .entry)) r (now (cells .exit)) (now (out .exit)) ⌝ }
 {
-    let place = s.place;
-    let count = table.len() / 2;
-    if count <= place {
+    let i = t.index;
+    if table.len() <= i {
         return Move::Stop(endings::BAD_CODE);
     }
-    let o = decode(table[place * 2], table[place * 2 + 1]);
+    let o = decode(table[i], table[i + 1]);
+    let s = State {
+        index: i + 2,
+        depth: t.depth,
+        used: t.used,
+        printed: t.printed,
+    };
+    let count = table.len() / 2;
     match o {
         Op::Bad => Move::Stop(endings::BAD_CODE),
         Op::Halt(h) => Move::Stop(h),
@@ -37,7 +45,13 @@ pub fn step(
         Op::StoreStack(k) => stack::store_stack(s, cells, k),
         Op::Jump(a) => stack::jump(s, count, a),
         Op::JumpIfFalse(a) => stack::jump_if_false(s, cells, count, a),
-        Op::Two(k) => stack::two_sided(s, cells, k),
+        Op::Plus => stack::two_sided(s, cells, Operator::Plus),
+        Op::Minus => stack::two_sided(s, cells, Operator::Minus),
+        Op::Times => stack::two_sided(s, cells, Operator::Times),
+        Op::Divide => stack::two_sided(s, cells, Operator::Divide),
+        Op::Equals => stack::two_sided(s, cells, Operator::Equals),
+        Op::Smaller => stack::two_sided(s, cells, Operator::Smaller),
+        Op::Greater => stack::two_sided(s, cells, Operator::Greater),
         Op::Negate => stack::negate(s, cells),
         Op::Not => stack::not(s, cells),
         Op::Read => stack::read(s, readings, cells),

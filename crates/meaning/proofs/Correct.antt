@@ -6,19 +6,19 @@ use Prim.Native.Nat.{ℕ, zero, suc, _+_, _≤_, _<_}
 use native.Mathlib.Nat.{not-suc-le-zero}
 use native.Mathlib.Numerals.{add-one}
 use native.Mathlib.Omega.{arith}
-use lib.IntN.{ℤ, pos, negℤ}
+use lib.IntN.{ℤ, pos}
 use lib.ListN.{length}
 use Rattle.sentence.specs.Sentences.{plus, minus, Kind, Sen, factor, term, expression, condition, command, commands, literal, variable, bracket, first, multiply, unsigned, signed, add, negated, compare, print, print-line, print-string, declare, input, assign, error, while, when, block, single, then}
 use Rattle.sentence.specs.Parts.{Each}
 use Rattle.instruction.specs.Endings.{stopped-by-ERROR}
-use Rattle.instruction.specs.Numbers.{Two-sided, calculate, in-range}
+use Rattle.instruction.specs.Numbers.{Two-sided, calculate}
 use Rattle.instruction.specs.Instructions.{two-sided, jump, jump-if-false}
-use Rattle.machine.specs.Machine.{Lent, pairs, does, fetched}
+use Rattle.machine.specs.Machine.{Lent, pairs, fetched}
 use Rattle.meaning.specs.Layout.{of-mul, of-sign, of-rel, size, code, need}
 use Rattle.meaning.specs.Fits.{Fits}
 use Rattle.meaning.specs.Meaning.{Act, _>>=_, _>>_, unit, result, Value, signed-value, rounds, mean}
 use Rattle.meaning.proofs.Laid.{Holds, holds-next, holds-code}
-use Rattle.meaning.proofs.Leads.{Leads, here, bind, seq, moved, first-step, step-on, fuelled, pushes, loads, stores, results, negates, halts, prints, prints-string, prints-line, reads, jumps, chooses}
+use Rattle.meaning.proofs.Leads.{Leads, here, bind, seq, moved, first-step, step-on, fuelled, pushes, loads, stores, calculates, minuses, negates, halts, prints-number, prints-string, prints-line, reads, jumps, chooses}
 
 -- a construct's value on the stack; a Command has none
 abbrev pub pile : (k : Kind) → Value k → List ℤ → List ℤ
@@ -41,7 +41,7 @@ module _ (lent : Lent) (d : ℕ) where
   -- two sides, then the operator or relation
   two : {N a b c : ℕ} {ts : List ℤ} {x y : Act ℤ} (o : Two-sided) → fetched lent c ≡ some (two-sided o) → Leads lent d N a ts x b (λ v. v ∷ ts) → ((v : ℤ) → Leads lent d N b (v ∷ ts) y c (λ w. w ∷ v ∷ ts)) →
       Leads lent d N a ts (x >>= λ v. y >>= λ w. unit >> result (calculate o v w)) (suc c) (λ v. v ∷ ts)
-  two {ts} o h p q = bind p (λ v. bind (q v) (λ w. step-on h (results ts (calculate o v w) (λ g u. unfold does in refl))))
+  two o h p q = bind p (λ v. bind (q v) (λ w. step-on h (calculates o v w)))
 
   -- the rounds of a WHILE, with more fuel than units left: by the fuel
   loops : (c : Act ℤ) (m : Act (Unit {0})) (a i j : ℕ) (ts : List ℤ) →
@@ -70,7 +70,7 @@ module _ (lent : Lent) (d : ℕ) where
       bind (runs t N a ts (p .0) (omega arith) f r) (λ v. unfold signed-value in moved (omega arith) (here v (λ w. w ∷ ts)))
   runs (signed minus t) = λ N a ts h i f r.
       let p = holds-code lent a t _ h in
-      bind (runs t N a ts (p .0) (omega arith) f r) (λ v. unfold signed-value in moved (omega arith) (step-on (p .1 .0) (results ts (in-range (negℤ v)) (λ g u. unfold does in refl))))
+      bind (runs t N a ts (p .0) (omega arith) f r) (λ v. unfold signed-value in moved (omega arith) (step-on (p .1 .0) (minuses v)))
   runs (add x o y) = λ N a ts h i f r.
       let p = holds-code lent a x _ h in
       let q = holds-code lent (a + size x) y _ (p .1) in
@@ -84,7 +84,7 @@ module _ (lent : Lent) (d : ℕ) where
       moved (omega arith) (two (of-rel o) (q .1 .0) (runs x N a ts (p .0) (omega arith) (f .0) (omega arith)) (λ v. runs y N (a + size x) (v ∷ ts) (q .0) (omega arith) (f .1) (omega arith)))
   runs (print e) = λ N a ts h i f r.
       let p = holds-code lent a e _ h in
-      bind (runs e N a ts (p .0) (omega arith) f r) (λ v. moved (omega arith) (step-on (p .1 .0) (prints v)))
+      bind (runs e N a ts (p .0) (omega arith) f r) (λ v. moved (omega arith) (step-on (p .1 .0) (prints-number v)))
   runs (print-line q) = λ N a ts h i f r. moved (sym (add-one a)) (step-on (h .0) (prints-line (q .place) (q .inside) f))
   runs (print-string q) = λ N a ts h i f r. moved (sym (add-one a)) (step-on (h .0) (prints-string (q .place) (q .inside) f))
   runs (declare c) = λ N a ts h i f r. moved (omega arith) (step-on (h .0) (pushes (pos 0) (omega arith) (step-on (h .1 .0) (stores c (pos 0) f))))

@@ -11,7 +11,7 @@ use lib.ListN.{length, getElem?, replicate, length-append}
 use Rattle.sentence.specs.Sentences.{plus, minus, Kind, Sen, command, literal, variable, bracket, first, multiply, unsigned, signed, add, negated, compare, print, print-line, print-string, declare, input, assign, error, while, when, block, single, then}
 use Rattle.instruction.specs.Instructions.{Instruction}
 use Rattle.machine.specs.Machine.{Lent, fetched}
-use Rattle.machine.proofs.Pairs.{Sound, All-sound}
+use Rattle.instruction.proofs.Pairs.{Sound, All-sound}
 use Rattle.meaning.specs.Layout.{size, code, program-code}
 
 -- ---- how long it is, and that each of its instructions has a pair

@@ -6,18 +6,18 @@ use native.Mathlib.Nat.{le-refl, zero-add}
 use native.Mathlib.Omega.{arith}
 use lib.IntN.{ℤ, pos}
 use lib.ListN.{replicate, length-replicate}
-use borrow.Author.Tests.{lt-ltb}
 use Rattle.sentence.specs.Sentences.{Sen, command}
 use Rattle.instruction.specs.Endings.{normal}
-use Rattle.instruction.specs.Instructions.{halt, push-int, numbers}
-use Rattle.machine.specs.Machine.{Lent, untouched, pushed, pairs, does, End, run, report, whole-run}
+use Rattle.instruction.specs.Instructions.{halt, push-int, numbers, takes, gives}
+use Rattle.machine.specs.Machine.{Lent, untouched, fresh, pushed, pairs, names-well, does, run, End, end-of, report, whole-run}
+use Rattle.machine.proofs.Tried.{works}
 use Rattle.machine.proofs.Pairs.{even, pairs-are, fetched-is}
 use Rattle.meaning.specs.Layout.{size, program-code, program-need}
 use Rattle.meaning.specs.Fits.{Fits}
 use Rattle.meaning.specs.Meaning.{Store, start, Outcome, done, ended, after, _>>_, give, end-with, unit, declarations, program, meaning}
 use Rattle.meaning.proofs.Cells.{cells, length-cells}
 use Rattle.meaning.proofs.Laid.{laid-program, Holds, holds-split, holds-code, holds-all}
-use Rattle.meaning.proofs.Leads.{finish, finish-after, continue, unit-step}
+use Rattle.meaning.proofs.Leads.{finish, finish-after, at, continue, unit-step, halted}
 use Rattle.meaning.proofs.Correct.{Runs, runs}
 
 abbrev zeros : ℕ → ℤ
@@ -37,24 +37,24 @@ meaning-is readings room d m n = by (program readings room d m n start)
 
 module _ (lent : Lent) (d : ℕ) where
   -- k declarations are to come, after j
-  opened : d ≤ lent .cells → (k j n : ℕ) → j + k ≡ d → Holds lent j (replicate k (push-int (pos 0))) → (K : Unit {0} → ℕ → Store → End) → ((l : ℕ) → run lent l d (cells d zeros) untouched ≡ K tt l start) →
-      run lent n j (cells j zeros) untouched ≡ finish (declarations (lent .readings) (lent .room) k n start) K
-  unfolding declarations Holds does pushed continue cells
+  opened : d ≤ lent .cells → (k j n : ℕ) → j + k ≡ d → Holds lent j (replicate k (push-int (pos 0))) → (K : Unit {0} → ℕ → Store → End) → ((l : ℕ) → end-of (run lent l (at d (cells d zeros) untouched)) ≡ K tt l start) →
+      end-of (run lent n (at j (cells j zeros) untouched)) ≡ finish (declarations (lent .readings) (lent .room) k n start) K
+  unfolding declarations Holds takes gives names-well does pushed continue cells
   opened c zero j n e h K next = let q : j ≡ d = omega arith in rw q (unfold give finish in next n)
   opened c (suc k) j n e h K next = unit-step lent (push-int (pos 0)) j n (cells j zeros) start (declarations (lent .readings) (lent .room) k) K (h .0)
-      (λ m l. rw (length-cells j zeros, lt-ltb j (lent .cells) (omega arith)) (opened c k (suc j) m (omega arith) (h .1) K next))
+      (λ m l. rw (← works lent (push-int (pos 0)) (at (suc j) (cells j zeros) untouched) j (omega arith) (omega (arith, length-cells j zeros)) refl (omega (arith, length-cells j zeros))) (opened c k (suc j) m (omega arith) (h .1) K next))
 
   -- the last unit is that of `Halt 0`
-  closed : (a n : ℕ) (st : List ℤ) (s : Store) → Holds lent a (halt 0 ∷ []) → run lent n a st (s .outside) ≡ finish (unit n s) ends
+  closed : (a n : ℕ) (st : List ℤ) (s : Store) → Holds lent a (halt 0 ∷ []) → end-of (run lent n (at a st (s .outside))) ≡ finish (unit n s) ends
   unfolding Holds
-  closed a n st s h = unit-step lent (halt 0) a n st s (give tt) ends (h .0) (λ m l. unfold does continue give finish in refl) ∙ by n
+  closed a n st s h = unit-step lent (halt 0) a n st s (give tt) ends (h .0) (λ m l. unfold continue give finish in rw (halted lent 0 (suc a) st (s .outside))) ∙ by n
     where
       by : (n : ℕ) → finish ((unit >> give tt) n s) ends ≡ finish (unit n s) ends
       by zero = unfold _>>_ unit after end-with finish in refl
       by (suc n) = unfold _>>_ unit after give finish in refl
 
   program-runs : (m : Sen ℕ command) (n : ℕ) → Holds lent 0 (program-code d m) → d + size m < pairs lent → Fits (lent .text) d m → program-need d m ≤ lent .cells →
-      run lent n 0 [] untouched ≡ meaning (lent .readings) (lent .room) d m n
+      end-of (run lent n fresh) ≡ meaning (lent .readings) (lent .room) d m n
   unfolding program-code program-need Runs program _>>_ cells
   program-runs m n h i f r =
       let p = holds-split lent 0 (replicate d (push-int (pos 0))) _ h in

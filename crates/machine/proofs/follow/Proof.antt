@@ -1,14 +1,13 @@
 -- `follow` meets its contract. The loop's invariant: the state is good, and the run from here with the budget left is the run from the start.
 -- The measure is the budget left. Assumes nothing.
 use mathlib.Core.Path.{_≡_, refl, sym, _∙_}
-use mathlib.Core.List.{[]}
 use Prim.Native.Nat.{suc, _-_, _+_, _≤_}
 use native.Mathlib.Nat.{sub-zero}
 use native.Mathlib.Omega.{arith}
 use borrow.Author.Needs.{needs}
 use denote.Ref.{now}
 use Rattle.machine.specs.Machine as M
-use Rattle.machine.specs.Coded.{live, outside, Good, Did}
+use Rattle.machine.specs.Coded.{live, machine-of, Good, Did}
 use Rattle.machine.specs.Promise.{lends}
 use Rattle.machine.proofs.Runs.{run-goes, run-stops, reports}
 use Rattle.machine.proofs.follow.Statement.{statement}
@@ -18,7 +17,7 @@ abbrev Inv-loop : tie.InvT-loop
 Inv-loop text table readings budget stack₀ out₀ s₀ steps₀ stack out s steps =
     Good (lends text table readings stack₀ out₀) out₀ s stack out
     × ((steps ≤ budget)
-    × (M.run (lends text table readings stack₀ out₀) (budget - steps) (s .place) (live (s .depth) stack) (outside s out) ≡ M.run (lends text table readings stack₀ out₀) budget 0 [] M.untouched))
+    × (M.run (lends text table readings stack₀ out₀) (budget - steps) (machine-of s stack out) ≡ M.run (lends text table readings stack₀ out₀) budget M.fresh))
 
 abbrev μ-loop : tie.MeasureT-loop
 μ-loop text table readings budget stack₀ out₀ s₀ steps₀ stack out s steps = budget - steps
@@ -28,13 +27,13 @@ lent c = lends (now (c .args .text)) (now (c .args .table)) (now (c .args .readi
 
 loop-holds : tie.Need-loop-holds Inv-loop μ-loop
 unfolding live
-loop-holds c = (record { deep = omega arith; stack = refl; within = omega arith; size = refl; past = refl }, (omega arith, rw (sub-zero (c .before .before .args .budget))))
+loop-holds c = (record { deep = omega arith; stack = refl; within = omega arith; size = refl; past = refl; whole = refl }, (omega arith, rw (sub-zero (c .before .before .args .budget))))
 
 add-steps : tie.Need-add-steps Inv-loop μ-loop
 add-steps c = omega arith
 
 step-requires : tie.Need-step-requires Inv-loop μ-loop
-step-requires c κs = (c .before .before .before .loop .inv .0 .deep, c .before .before .before .loop .inv .0 .within)
+step-requires c κs = ((c .before .before .before .loop .inv .0 .deep, c .before .before .before .loop .inv .0 .within), (c .before .before .before .loop .inv .0 .whole, c .before .before .before .before .before .before .pre))
 
 -- the step, of the run that is lent what this run was lent
 did : (c : tie.After-step Inv-loop μ-loop) → Did (lent (c .before .before .before .before .before .before .before)) (now (c .before .before .before .before .before .before .before .args .out)) (M.step (lent (c .before .before .before .before .before .before .before))) (c .before .before .before .before .loop .s) (c .before .before .before .before .loop .stack) (c .before .before .before .before .loop .out) (c .step .result) (c .step .last .1 .1 .1 .1 .0) (c .step .last .1 .1 .1 .1 .1 .0)
@@ -50,7 +49,7 @@ loop-less c = omega arith
 loop-again : tie.Need-loop-again Inv-loop μ-loop
 loop-again c = let d = rw (c .before .m .given .1) at (did (c .before .before .before .before .before .before)) in
     let k : c .before .before .before .before .before .before .before .before .before .before .before .before .before .args .budget - c .before .before .before .before .before .before .before .before .before .before .loop .steps ≡ suc (c .before .before .before .before .before .before .before .before .before .before .before .before .before .args .budget - (c .before .before .before .before .before .before .before .before .before .before .loop .steps + 1)) = omega arith in
-    (d .left, (omega arith, sym (run-goes (lent (c .before .before .before .before .before .before .before .before .before .before .before .before .before)) (c .before .before .before .before .before .before .before .before .before .before .before .before .before .args .budget - (c .before .before .before .before .before .before .before .before .before .before .loop .steps + 1)) _ _ _ (d .seen)) ∙ (rw (← k) (c .before .before .before .before .before .before .before .before .before .before .loop .inv .1 .1))))
+    (d .left, (omega arith, sym (run-goes (lent (c .before .before .before .before .before .before .before .before .before .before .before .before .before)) (c .before .before .before .before .before .before .before .before .before .before .before .before .before .args .budget - (c .before .before .before .before .before .before .before .before .before .before .loop .steps + 1)) _ (d .seen)) ∙ (rw (← k) (c .before .before .before .before .before .before .before .before .before .before .loop .inv .1 .1))))
 
 same-length : tie.Need-same-length Inv-loop μ-loop
 same-length c = c .before .before .before .before .before .before .step .kept .1 .1 .1 .1 .0 ∙ c .before .before .before .before .before .before .before .before .before .before .loop .inv .0 .stack
@@ -61,7 +60,7 @@ same-length-2 c = c .before .before .before .before .before .before .step .kept 
 returns : tie.Need-returns Inv-loop μ-loop
 returns c = let d = rw (c .before .m2 .given .1) at (did (c .before .before .before .before .before .before)) in
     let k : c .before .before .before .before .before .before .before .before .before .before .before .before .before .args .budget - c .before .before .before .before .before .before .before .before .before .before .loop .steps ≡ suc (c .before .before .before .before .before .before .before .before .before .before .before .before .before .args .budget - (c .before .before .before .before .before .before .before .before .before .before .loop .steps + 1)) = omega arith in
-    rw (d .left) (reports (c .before .before .before .before .before .before .before .before .before .before .loop .inv .0) (c .before .before .before .before .before .before .before .before .before .before .before .before .before .args .budget) _ (c .before .before .before .before .before .before .before .before .before .before .before .before .before .args .budget - (c .before .before .before .before .before .before .before .before .before .before .loop .steps + 1)) (c .before .before .before .before .before .before .before .before .before .before .loop .steps + 1) _ (sym (run-stops (lent (c .before .before .before .before .before .before .before .before .before .before .before .before .before)) (c .before .before .before .before .before .before .before .before .before .before .before .before .before .args .budget - (c .before .before .before .before .before .before .before .before .before .before .loop .steps + 1)) _ _ _ (d .seen)) ∙ (rw (← k) (c .before .before .before .before .before .before .before .before .before .before .loop .inv .1 .1))) (omega arith))
+    rw (d .left) (reports (c .before .before .before .before .before .before .before .before .before .before .loop .inv .0) (c .before .before .before .before .before .before .before .before .before .before .before .before .before .args .budget) _ (c .before .before .before .before .before .before .before .before .before .before .before .before .before .args .budget - (c .before .before .before .before .before .before .before .before .before .before .loop .steps + 1)) (c .before .before .before .before .before .before .before .before .before .before .loop .steps + 1) (M.run (lent (c .before .before .before .before .before .before .before .before .before .before .before .before .before)) (c .before .before .before .before .before .before .before .before .before .before .before .before .before .args .budget) M.fresh) (sym (run-stops (lent (c .before .before .before .before .before .before .before .before .before .before .before .before .before)) (c .before .before .before .before .before .before .before .before .before .before .before .before .before .args .budget - (c .before .before .before .before .before .before .before .before .before .before .loop .steps + 1)) _ (d .seen)) ∙ (rw (← k) (c .before .before .before .before .before .before .before .before .before .before .loop .inv .1 .1))) (omega arith))
 
 same-length-3 : tie.Need-same-length-3 Inv-loop μ-loop
 same-length-3 c = c .before .loop .inv .0 .stack

@@ -1,5 +1,5 @@
 -- `print::print_int` meets its contract. Assumes nothing.
-use mathlib.Core.Path.{_≡_}
+use mathlib.Core.Path.{_≡_, refl}
 use Prim.Native.Nat.{_-_}
 use native.Mathlib.Omega.{arith}
 use borrow.Author.Needs.{needs}
@@ -9,28 +9,29 @@ use lib.ListN.{length, take, drop, length-drop}
 use lib.Seq.{take-all}
 use mir.Syntax.{w32}
 use mir.Facts.{toZ-ofZ}
-use Rattle.instruction.specs.Instructions.{print-int}
-use Rattle.machine.specs.Machine.{does}
-use Rattle.machine.proofs.Cells.{live-none, live-top}
-use Rattle.machine.proofs.Steps.{stops, also}
+use Rattle.instruction.specs.Instructions.{print-int, takes, gives}
+use Rattle.machine.specs.Machine.{names-well, does, tried}
+use Rattle.machine.proofs.Cells.{live-first}
+use Rattle.machine.proofs.Steps.{stops, few, works, also}
 use Rattle.machine.proofs.print.print_int.Statement.{statement}
 use Rattle.machine.proofs.print.print_int.Tie as tie
 
 returns : tie.Need-returns
-unfolding does
-returns c = λ lent before g. stops g (does lent print-int) 8 (rw (live-none (c .before .before .args .s .depth) (now (c .before .before .args .stack)) (c .if1 .taken)))
+unfolding takes
+returns c = λ lent before g. stops g (tried lent print-int) 8 (few g print-int (c .if1 .taken))
 
 write-requires : tie.Need-write-requires
-write-requires c κs = rw (c .before .before .before .before .moved .ensures) (record { within = c .before .before .before .before .before .before .before .before .before .before .before .pre .1 .within; next = c .before .before .before .before .before .before .before .before .before .before .before .pre .1 .next })
+write-requires c κs = rw (c .before .before .before .before .moved .ensures) (c .before .before .before .before .before .before .before .before .before .before .before .pre .1)
 
 returns-2 : tie.Need-returns-2
-unfolding does
+unfolding takes gives names-well does
 returns-2 c = λ lent before g.
     let r = c .before .before .before .before .before .before .before .before .before .put-decimal .result in
     let b = c .before .before .before .before .before .before .before .before .before .put-decimal .last .1 .0 in
     let l : length (c .before .before .before .before .before .before .before .before .before .put-decimal .last .1 .0) ≡ 11 = c .before .before .before .before .before .before .before .before .before .put-decimal .kept .1 .0 in
-    also (c .before .before .write .ensures lent (now (c .before .before .before .before .before .before .before .before .before .before .before .before .before .before .args .stack)) before (rw (c .before .before .before .before .before .before .before .moved .ensures) (record { deep = omega arith; stack = g .stack; within = g .within; size = g .size; past = g .past })))
-    (rw (c .before .before .before .before .before .before .before .moved .ensures, live-top (c .before .before .before .before .before .before .before .before .before .before .before .before .before .before .args .s .depth) (now (c .before .before .before .before .before .before .before .before .before .before .before .before .before .before .args .stack)) (c .before .before .before .before .before .before .before .before .before .before .before .before .if1 .left), append-nil (take (11 - r) (drop r b)), take-all (11 - r) (drop r b) (simp length-drop (omega arith)), c .before .before .before .before .before .before .before .before .before .put-decimal .ensures .1, toZ-ofZ {w = w32} (record { sfits = c .before .before .before .before .before .before .before .before .before .before .before .put-decimal-arg .given })))
+    also (c .before .before .write .ensures lent (now (c .before .before .before .before .before .before .before .before .before .before .before .before .before .before .args .stack)) before (rw (c .before .before .before .before .before .before .before .moved .ensures) (record { deep = omega arith; stack = g .stack; within = g .within; size = g .size; past = g .past; whole = g .whole })))
+    (rw (c .before .before .before .before .before .before .before .moved .ensures, append-nil (take (11 - r) (drop r b)), take-all (11 - r) (drop r b) (simp length-drop (omega arith)), c .before .before .before .before .before .before .before .before .before .put-decimal .ensures .1, toZ-ofZ {w = w32} (record { sfits = c .before .before .before .before .before .before .before .before .before .before .before .put-decimal-arg .given }))
+    (works g print-int (c .before .before .before .before .before .before .before .before .before .before .before .before .before .before .args .s .depth - 1) (c .before .before .before .before .before .before .before .before .before .before .before .before .if1 .left) refl refl (omega arith) refl (live-first (c .before .before .before .before .before .before .before .before .before .before .before .before .before .before .args .s .depth) (now (c .before .before .before .before .before .before .before .before .before .before .before .before .before .before .args .stack)) (c .before .before .before .before .before .before .before .before .before .before .before .before .if1 .left))))
 
 pub print-int-spec : {M : Type 1} → statement M
 print-int-spec =

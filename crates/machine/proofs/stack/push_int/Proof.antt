@@ -1,19 +1,28 @@
 -- `stack::push_int` meets its contract. Assumes nothing.
+use native.Mathlib.Nat.{sub-zero}
+use mathlib.Core.Path.{refl}
+use native.Mathlib.Omega.{arith}
 use borrow.Author.Needs.{needs}
 use mir.Facts.{toZ-ofZ}
-use Rattle.instruction.specs.Instructions.{push-int}
-use Rattle.machine.specs.Machine.{does, pushed, resulting}
-use Rattle.machine.proofs.Steps.{stops, full, free, also}
+use Rattle.instruction.specs.Instructions.{push-int, takes, gives}
+use Rattle.machine.specs.Machine.{resulting, names-well, does, tried}
+use Rattle.machine.proofs.Steps.{stops, full, works, also}
 use Rattle.machine.proofs.stack.push_int.Statement.{statement}
 use Rattle.machine.proofs.stack.push_int.Tie as tie
 
 returns : tie.Need-returns
-unfolding does pushed
-returns c = λ lent room before g. stops g (does lent (push-int (c .before .args .v))) 6 (rw (full g (c .if1 .taken)))
+unfolding takes gives names-well
+returns c = λ lent room before g. stops g (tried lent (push-int (c .before .args .v))) 6 (full g (push-int (c .before .args .v)) (c .before .args .s .depth) (omega arith) (sub-zero (c .before .args .s .depth)) refl (omega (arith, c .if1 .taken)))
 
 returns-2 : tie.Need-returns-2
-unfolding does pushed resulting
-returns-2 c = λ lent room before g. also (c .before .put .ensures lent room before g) (rw (toZ-ofZ (c .before .before .before .before .fits .v), free g (c .before .before .before .if1 .left)))
+unfolding takes gives names-well does resulting
+returns-2 c = λ lent room before g. also (c .before .put .ensures lent room before g) (rw (toZ-ofZ (c .before .before .before .before .fits .v)) (works g (push-int (c .before .before .before .before .args .v)) (c .before .before .before .before .args .s .depth) (omega arith) (sub-zero (c .before .before .before .before .args .s .depth)) refl (omega (arith, c .before .before .before .if1 .left)) refl refl))
 
 pub push-int-spec : {M : Type 1} → statement M
-push-int-spec = tie.close (tie.spec returns (λ c κs. search needs) (λ c. search needs) returns-2)
+push-int-spec =
+    tie.close
+    (tie.spec
+    returns
+    (λ c κs. search needs)
+    (λ c. search needs)
+    returns-2)

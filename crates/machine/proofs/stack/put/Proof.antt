@@ -11,9 +11,9 @@ use Rattle.machine.proofs.stack.put.Tie as tie
 
 returns : tie.Need-returns
 returns c = λ lent room before g.
-    let v = c .before .before .before .n .given .0 .0 in
-    let f : SFits w32 (c .before .before .before .n .given .0 .0) = search needs in
-    rw (c .moved .ensures, toZ-ofZ {w = w32} {z = v} f, c .before .before .before .n .given .1) (puts g (c .before .before .before .before .before .args .d) v (c .before .before .before .before .before .pre .1))
+    let v = c .before .before .n .given .0 .0 in
+    let f : SFits w32 (c .before .before .n .given .0 .0) = search needs in
+    rw (c .moved .ensures, toZ-ofZ {w = w32} {z = v} f, c .before .before .n .given .1) (puts g (c .before .before .before .before .args .d) v (c .before .before .before .before .pre .1))
 
 returns-2 : tie.Need-returns-2
 unfolding resulting
@@ -23,7 +23,6 @@ pub put-spec : {M : Type 1} → statement M
 put-spec =
     tie.close
     (tie.spec
-    (λ c. search needs)
     (λ c. search needs)
     (λ c. search needs)
     (λ c. search needs)

@@ -1,28 +1,37 @@
 -- `stack::read` meets its contract. Assumes nothing.
+use native.Mathlib.Nat.{sub-zero}
+use mathlib.Core.Path.{_≡_, refl}
+use mathlib.Core.Option.{none, some}
+use native.Mathlib.Omega.{arith}
 use native.Mathlib.Numerals.{add-one}
+use lib.IntN.{pos}
+use lib.ListN.{getD, getElem?}
 use borrow.Author.Needs.{needs}
 use denote.Ref.{now}
 use mir.Syntax.{w32}
 use mir.Facts.{toZ-ofZ}
-use Rattle.instruction.specs.Instructions.{read}
-use Rattle.machine.specs.Machine.{does, resulting, taken, reading, one-used}
-use Rattle.machine.proofs.Steps.{stops, full, free, also, no-more, one-more}
+use Rattle.instruction.specs.Instructions.{read, takes, gives}
+use Rattle.machine.specs.Machine.{resulting, pushed, taken, reading, one-used, names-well, does, tried}
+use Rattle.machine.proofs.Steps.{stops, full, works, also, no-more, one-more}
 use Rattle.machine.proofs.stack.read.Statement.{statement}
 use Rattle.machine.proofs.stack.read.Tie as tie
 
 returns : tie.Need-returns
-unfolding does
-returns c = λ lent e room before g. stops g (does lent read) 6 (rw (full g (c .if1 .taken)))
+unfolding takes gives names-well
+returns c = λ lent e room before g. stops g (tried lent read) 6 (full g read (c .before .args .s .depth) (omega arith) (sub-zero (c .before .args .s .depth)) refl (omega (arith, c .if1 .taken)))
 
 returns-2 : tie.Need-returns-2
-unfolding does taken reading
-returns-2 c = λ lent e room before g. stops g (does lent read) 3 (rw (free g (c .before .if1 .left), ← e, no-more (now (c .before .before .args .readings)) (c .before .before .args .s .used) (c .if2 .taken)))
+unfolding takes gives names-well does taken reading
+returns-2 c = λ lent e room before g.
+    let r : getElem? (lent .readings) (c .before .before .args .s .used) ≡ none = rw (← e) (no-more (now (c .before .before .args .readings)) (c .before .before .args .s .used) (c .if2 .taken)) in
+    stops g (tried lent read) 3 (rw r at (works g read (c .before .before .args .s .depth) (omega arith) (sub-zero (c .before .before .args .s .depth)) refl (omega (arith, c .before .if1 .left)) refl refl))
 
 returns-3 : tie.Need-returns-3
-unfolding does taken reading one-used resulting
+unfolding takes gives names-well does taken reading one-used resulting pushed
 returns-3 c = λ lent e room before g.
-    also (c .before .put .ensures lent room before (record { deep = g .deep; stack = g .stack; within = g .within; size = g .size; past = g .past }))
-    (rw (free g (c .before .before .before .before .before .if1 .left), ← e, one-more (now (c .before .before .before .before .before .before .args .readings)) (c .before .before .before .before .before .before .args .s .used) (c .before .before .before .before .if2 .left), add-one (c .before .before .before .before .before .before .args .s .used), toZ-ofZ {w = w32} (record { sfits = c .before .before .t12 .given })))
+    let r : getElem? (lent .readings) (c .before .before .before .before .before .before .args .s .used) ≡ some (getD (now (c .before .before .before .before .before .before .args .readings)) (c .before .before .before .before .before .before .args .s .used) (pos 0)) = rw (← e) (one-more (now (c .before .before .before .before .before .before .args .readings)) (c .before .before .before .before .before .before .args .s .used) (c .before .before .before .before .if2 .left)) in
+    also (c .before .put .ensures lent room before (record { deep = g .deep; stack = g .stack; within = g .within; size = g .size; past = g .past; whole = g .whole }))
+    (rw (toZ-ofZ {w = w32} (record { sfits = c .before .before .t12 .given }), add-one (c .before .before .before .before .before .before .args .s .used)) (rw r at (works g read (c .before .before .before .before .before .before .args .s .depth) (omega arith) (sub-zero (c .before .before .before .before .before .before .args .s .depth)) refl (omega (arith, c .before .before .before .before .before .if1 .left)) refl refl)))
 
 pub read-spec : {M : Type 1} → statement M
 read-spec =

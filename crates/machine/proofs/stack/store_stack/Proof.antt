@@ -1,6 +1,6 @@
 -- `stack::store_stack` meets its contract. Assumes nothing.
-use Prim.Native.Nat.{_+_, _-_}
-use native.Mathlib.Numerals.{add-one}
+use mathlib.Core.Path.{refl}
+use Prim.Native.Nat.{_-_}
 use native.Mathlib.Omega.{arith}
 use borrow.Author.Needs.{needs}
 use borrow.Author.Tests.{lt-ltb, le-ltb}
@@ -9,31 +9,30 @@ use lib.IntN.{pos}
 use lib.ListN.{getD, set, length-set}
 use mir.Syntax.{w32}
 use mir.Facts.{toZ-ofZ}
-use Rattle.instruction.specs.Instructions.{store-stack}
-use Rattle.machine.specs.Machine.{does}
-use Rattle.machine.proofs.Cells.{length-live, live-none, live-top, poke-live}
-use Rattle.machine.proofs.Steps.{stops, goes}
+use Rattle.instruction.specs.Instructions.{store-stack, takes, gives}
+use Rattle.machine.specs.Machine.{names-well, left-with, does, tried}
+use Rattle.machine.proofs.Cells.{live-first, poke-live}
+use Rattle.machine.proofs.Steps.{stops, goes, few, misnamed, works}
 use Rattle.machine.proofs.stack.store_stack.Statement.{statement}
 use Rattle.machine.proofs.stack.store_stack.Tie as tie
 
 returns : tie.Need-returns
-unfolding does
-returns c = λ lent room before g. stops g (does lent (store-stack (c .before .args .k))) 8 (rw (live-none (c .before .args .s .depth) (now (c .before .args .stack)) (c .if1 .taken)))
+unfolding takes
+returns c = λ lent room before g. stops g (tried lent (store-stack (c .before .args .k))) 8 (few g (store-stack (c .before .args .k)) (c .if1 .taken))
 
 returns-2 : tie.Need-returns-2
-unfolding does
-returns-2 c = λ lent room before g.
-    stops g (does lent (store-stack (c .before .before .args .k))) 8
-    (rw (live-top (c .before .before .args .s .depth) (now (c .before .before .args .stack)) (c .before .if1 .left), length-live (c .before .before .args .s .depth - 1) (now (c .before .before .args .stack)), le-ltb (c .before .before .args .k) (c .before .before .args .s .depth - 1) (c .if2 .taken)))
+unfolding takes names-well
+returns-2 c = λ lent room before g. stops g (tried lent (store-stack (c .before .before .args .k))) 8 (misnamed g (store-stack (c .before .before .args .k)) (c .before .before .args .s .depth - 1) (c .before .if1 .left) refl (le-ltb (c .before .before .args .k) (c .before .before .args .s .depth - 1) (c .if2 .taken)))
 
 returns-3 : tie.Need-returns-3
-unfolding does
+unfolding takes gives names-well does left-with
 returns-3 c = λ lent room before g.
-    let d = c .before .before .before .before .before .args .s .depth - 1 in
-    let cells = now (c .before .before .before .before .before .args .stack) in
-    rw (c .moved .ensures, toZ-ofZ {w = w32} (record { sfits = c .before .before .stack .given }))
-    (goes g (does lent (store-stack (c .before .before .before .before .before .args .k))) (c .before .before .before .before .before .args .s .place + 1) d (set cells (c .before .before .before .before .before .args .k) (getD cells d (pos 0))) (omega arith) (length-set cells (c .before .before .before .before .before .args .k) (getD cells d (pos 0)))
-    (rw (add-one (c .before .before .before .before .before .args .s .place), live-top (c .before .before .before .before .before .args .s .depth) cells (c .before .before .before .before .if1 .left), length-live d cells, lt-ltb (c .before .before .before .before .before .args .k) d (c .before .before .before .if2 .left), poke-live d (c .before .before .before .before .before .args .k) cells (getD cells d (pos 0)) (c .before .before .before .if2 .left) (omega (arith, c .before .before .before .before .before .pre .deep)))))
+    let d = c .before .before .before .before .args .s .depth - 1 in
+    let cells = now (c .before .before .before .before .args .stack) in
+    rw (c .moved .ensures, toZ-ofZ {w = w32} (record { sfits = c .before .stack .given }))
+    (goes g (tried lent (store-stack (c .before .before .before .before .args .k))) (c .before .before .before .before .args .s .index) d (set cells (c .before .before .before .before .args .k) (getD cells d (pos 0))) (g .whole) (omega arith) (length-set cells (c .before .before .before .before .args .k) (getD cells d (pos 0)))
+    (rw (← poke-live d (c .before .before .before .before .args .k) cells (getD cells d (pos 0)) (c .before .before .if2 .left) (omega (arith, c .before .before .before .before .pre)))
+    (works g (store-stack (c .before .before .before .before .args .k)) (c .before .before .before .before .args .s .depth - 1) (c .before .before .before .if1 .left) refl (lt-ltb (c .before .before .before .before .args .k) d (c .before .before .if2 .left)) (omega arith) refl (live-first (c .before .before .before .before .args .s .depth) cells (c .before .before .before .if1 .left)))))
 
 pub store-stack-spec : {M : Type 1} → statement M
 store-stack-spec =
@@ -41,7 +40,6 @@ store-stack-spec =
     (tie.spec
     returns
     returns-2
-    (λ c. search needs)
     (λ c. search needs)
     (λ c. search needs)
     (λ c. search needs)
