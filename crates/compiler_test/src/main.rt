@@ -1,12 +1,45 @@
-// Texts of every kind through the compiler: document 01's examples and edges, two faults in either order, document 001's programs.
+// The cases of standard input through the compiler: document 01's examples and edges, document 001's programs, and two faults of each
+// pair of classes in either order of place: the class decides before the place, and within a class the place.
+// A case is a text, whose listing is written; or, between bars, a text and how many numbers its table has; a heading with two bars;
+// or a text at a limit: its beginning, what is put so many times, how many, its middle, and what closes it as often.
+use libc::STDIN_FILENO;
 
 mod edges;
-mod faults;
 mod listings;
 mod say;
 
+fn at_a_limit(c: &[u8]) {
+    edges::nested(
+        cases::nth(c, b'|', 0),
+        cases::nth(c, b'|', 1),
+        cases::natural(cases::nth(c, b'|', 2)),
+        cases::nth(c, b'|', 3),
+        cases::nth(c, b'|', 4),
+    );
+}
+
+fn case(c: &[u8]) {
+    let first = cases::nth(c, b'|', 0);
+    match cases::count(c, b'|') {
+        0 => listings::list(c),
+        1 => edges::short(first, cases::natural(cases::nth(c, b'|', 1))),
+        2 => say::line(first),
+        _ => at_a_limit(c),
+    }
+}
+
+fn each(all: &[u8]) {
+    let n = cases::count(all, cases::END);
+    let mut i = 0;
+    while i < n {
+        case(cases::nth(all, cases::END, i));
+        i += 1;
+    }
+}
+
 fn main() {
-    listings::all();
-    edges::all();
-    faults::all();
+    let mut file = [0u8; 8192];
+    let n = io::read_full(STDIN_FILENO, &mut file);
+    cases::put_meant(&mut file);
+    each(base::part(&file, 0, n));
 }

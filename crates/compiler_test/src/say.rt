@@ -9,6 +9,11 @@ fn write(page: &[u8], n: usize) {
     }
 }
 
+pub fn line(text: &[u8]) {
+    io::write_all(STDOUT_FILENO, text);
+    io::write_all(STDOUT_FILENO, b"\n");
+}
+
 pub fn accepted(c: Counts) {
     let mut page = [0u8; 96];
     let n = lines::accepted(&mut page, 0, c.instructions, c.cells, c.need);

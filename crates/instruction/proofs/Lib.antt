@@ -1,3 +1,4 @@
+pub mod Buffers
 pub mod Codes
 pub mod Digits
 pub mod Pairs

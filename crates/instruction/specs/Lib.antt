@@ -1,3 +1,4 @@
+pub mod Buffers
 pub mod Endings
 pub mod Numbers
 pub mod Instructions

@@ -1,8 +1,10 @@
-// The lexemes of the bench examples, of document 001's programs and of the edges, a line for each text.
+// The lexemes of the texts of standard input, a line for each: the bench examples, document 001's listings 3.1, 3.2, 3.3 and 6.2, every
+// lexeme, what is none, and the edges. A case is a label, a bar and a text, or a text that is its own label.
 use lexeme::Found;
 use lexeme::Kind;
 use lexeme::Lexeme;
 use lexeme::fixed;
+use libc::STDIN_FILENO;
 
 fn say(text: &[u8]) {
     io::write_all(1, text);
@@ -74,99 +76,21 @@ fn see(text: &[u8]) {
     show(text, text);
 }
 
-fn bench() {
-    show(b"empty", b"");
-    see(b"DO { }");
-    see(b"DO PRINTI n");
-    see(b"DO PRINTI 2147483648");
-    see(b"DO PRINTI 2147483647");
-    see(b"DO PRINTI a1");
-    see(b"DO PRINTI 1/0");
-    see(b"DO PRINTI (0-7)/2");
-    see(b"DO { IF 1 > 2 THEN INT n PRINTI n }");
-    see(b"DO { INT t READ t IF t = 1 THEN ERROR PRINTI 7 }");
-    see(b"DO { INT n READ n WHILE n > 0 DO n := n - 1 PRINTI n }");
+// A label and a text.
+fn case(c: &[u8]) {
+    if cases::count(c, b'|') < 1 {
+        return see(c);
+    }
+    show(cases::nth(c, b'|', 0), cases::nth(c, b'|', 1));
 }
 
-// Document 001, listings 3.1, 3.2, 3.3 and 6.2.
-fn listings() {
-    show(b"hello", b"DO { PRINTLNS \"Hello world!\" }");
-    show(
-        b"sum",
-        b"DO {\n  PRINTLNS \"This program calculates the sum of two integers a + b.\"\n  INT a\n  INT b\n  PRINTS \"Please enter a: \"\n  READ a\n  PRINTS \"Please enter b: \"\n  READ b\n  PRINTS \"a + b = \"\n  PRINTI a + b\n}\n",
-    );
-    show(
-        b"primes",
-        b"DO {\n  PRINTLNS \"I will now begin listing all primes\"\n  INT n\n  n := 2\n  WHILE n > 0 DO {\n    INT m\n    INT isprime\n    m := 2\n    isprime := 1\n    WHILE m < n DO {\n        IF (n / m) * m = n THEN isprime := 0\n        m := m + 1\n    }\n    IF NOT isprime = 0 THEN {\n        PRINTI n\n        PRINTLNS \"\"\n    }\n    n := n + 1\n  }\n}\n",
-    );
-    show(
-        b"fac0",
-        b"DO {\n  PRINTS \"Please enter a natural number n: \"\n  INT n\n  READ n\n  INT faculty\n  faculty := 1\n  IF n < 0 THEN {\n    PRINTI n\n    PRINTLNS \" is not a natural number!\"\n    ERROR\n  }\n  WHILE n > 0 DO {\n    faculty := faculty * n\n    n := n - 1\n  }\n  PRINTS \"n! = \"\n  PRINTI faculty\n}\n",
-    );
-}
-
-fn every_lexeme() {
-    see(b"= , . > < + - * / ( ) [ ] { } :=");
-    see(b"CALL CLASS DO ERROR FIELDS IF INIT INT METHOD NOT");
-    see(b"OBJ PRINTI PRINTLNS PRINTS PROCEDURE READ RETURNS SUBCLASSOF THEN USING WHILE");
-    show(b"separators", b" \t\n\ra \t\n\r");
-    see(b"Intbox(1)");
-    see(b"DO{Do INTn dO}");
-    see(b"n:=-1:==2");
-    see(b"0 007 2147483647 00000000000000000000000000000000000000000000000007");
-    show(b"string over two lines", b"\"a\nb\"\"\"");
-}
-
-fn no_lexeme() {
-    let zero = [0u8; 1];
-    show(b"byte 0", &zero);
-    let high = [128u8; 1];
-    show(b"byte 128", &high);
-    see(b"n;");
-    see(b"a_b");
-    see(b":");
-    see(b"n :");
-    see(b"n : = 1");
-    see(b"a1");
-    see(b"1a");
-    see(b"Ab1");
-    see(b"\"open");
-    see(b"\"");
-}
-
-fn too_large() {
-    see(b"2147483648");
-    see(b"99999999999999999999999999999999999999999999999999");
-    show(b"the leftmost, 3 before 2", b"DO 2147483648 ;");
-    show(b"the leftmost, 2 before 3", b"DO ; 2147483648");
-}
-
-fn words() {
-    let most = [b'a'; 32];
-    show(b"32 small letters", &most);
-    let over = [b'a'; 33];
-    show(b"33 small letters", &over);
-    let capitals = [b'A'; 32];
-    show(b"32 capitals", &capitals);
-    let more = [b'A'; 33];
-    show(b"33 capitals", &more);
-    let mut mixed = [b'a'; 34];
-    mixed[33] = b'1';
-    show(b"33 letters and a digit", &mixed);
-}
-
-fn strings() {
-    let mut most = [b'x'; 257];
-    most[0] = b'"';
-    most[256] = b'"';
-    show(b"255 bytes between quotes", &most);
-    let mut over = [b'x'; 258];
-    over[0] = b'"';
-    over[257] = b'"';
-    show(b"256 bytes between quotes", &over);
-    let mut unclosed = [b'x'; 300];
-    unclosed[0] = b'"';
-    show(b"299 bytes, not closed", &unclosed);
+fn each(all: &[u8]) {
+    let n = cases::count(all, cases::END);
+    let mut i = 0;
+    while i < n {
+        case(cases::nth(all, cases::END, i));
+        i += 1;
+    }
 }
 
 fn say_long(label: &[u8], text: &[u8]) {
@@ -186,12 +110,9 @@ fn lengths() {
 }
 
 fn main() {
-    bench();
-    listings();
-    every_lexeme();
-    no_lexeme();
-    too_large();
-    words();
-    strings();
+    let mut file = [0u8; 8192];
+    let n = io::read_full(STDIN_FILENO, &mut file);
+    cases::put_meant(&mut file);
+    each(base::part(&file, 0, n));
     lengths();
 }

@@ -1,4 +1,3 @@
 pub mod Adds
-pub mod Decimals
 pub mod Short
 pub mod Tables

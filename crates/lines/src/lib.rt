@@ -7,6 +7,8 @@ ghost use Rattle.instruction.specs.Numbers.{decimal};
 ghost use Rattle.lines.specs.Added.{Added};
 ghost use Rattle.lines.specs.Lines.{refused-line, ending-line, accepted-line, instruction-line, table-lines};
 use base::Refusal;
+use instruction::decimal::put_decimal;
+use instruction::decimal::put_digits;
 
 pub fn put(page: &mut [u8], at: usize, bytes: &[u8]) -> usize
     ensures { λ r. ⌜ Added (now (bytes .entry)) (now (page .entry)) at (now (page .exit)) r ⌝ }
@@ -29,18 +31,16 @@ pub fn put_natural(page: &mut [u8], at: usize, n: u64) -> usize
     ensures { λ r. ⌜ Added (decimal (pos n)) (now (page .entry)) at (now (page .exit)) r ⌝ }
 {
     let mut digits = [0u8; 20];
-    let k = io::decimal(n, &mut digits);
-    put(page, at, &digits[..k])
+    let from = put_digits(n, &mut digits);
+    put(page, at, &digits[from..])
 }
 
 pub fn put_integer(page: &mut [u8], at: usize, v: i32) -> usize
     ensures { λ r. ⌜ Added (decimal v) (now (page .entry)) at (now (page .exit)) r ⌝ }
 {
-    let m = instruction::arith::distance(v) as u64;
-    if v < 0 {
-        return put_counted(page, at, b"-", m);
-    }
-    put_natural(page, at, m)
+    let mut digits = [0u8; 20];
+    let from = put_decimal(v, &mut digits);
+    put(page, at, &digits[from..])
 }
 
 // A number after its label.

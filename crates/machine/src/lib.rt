@@ -9,7 +9,6 @@ use instruction::endings;
 use state::Move;
 use state::State;
 
-mod decimal;
 mod print;
 mod stack;
 mod state;

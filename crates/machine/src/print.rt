@@ -9,11 +9,11 @@ ghost use Rattle.machine.specs.Machine.{Lent, Machine, stop, tried, prin
 ghost use Rattle.instruction.specs.Endings.{bad-code};
 ghost use Rattle.instruction.specs.Instructions.{print-int};
 ghost use Rattle.machine.specs.Coded.{Prints, Stepped};
-use super::decimal::put_decimal;
 use super::state::Move;
 use super::state::State;
 use super::state::moved;
 use base::Such;
+use instruction::decimal::put_decimal;
 use instruction::endings;
 
 // Bytes at a place with room for them.
@@ -67,7 +67,7 @@ pub fn print_int(s: State, stack: &[i32], out: &mut [u8]) -> Move
     if depth < 1 {
         return Move::Stop(endings::BAD_CODE);
     }
-    let mut buffer = [0u8; 11];
+    let mut buffer = [0u8; 20];
     let from = put_decimal(stack[depth - 1], &mut buffer);
     let t = moved(s, s.index, depth - 1);
     write(t, &buffer[from..], b"", out)

@@ -50,80 +50,6 @@ fn show(label: &[u8], one: &[u8], two: &[u8]) {
     end(label, s, &mut numbers, 0);
 }
 
-// An input as its own label.
-fn see(text: &[u8]) {
-    show(text, text, b"");
-}
-
-fn words() {
-    see(b"5-3");
-    see(b"-");
-    see(b"-0");
-    see(b"007");
-    see(b"1,2");
-    see(b"+5");
-    see(b"--5");
-    see(b"- 5");
-    see(b"4 5-3 6");
-    see(b"4 - 6");
-}
-
-// A byte of each kind after a number: signs, letters, the neighbours of the digits, other marks.
-fn after_a_number() {
-    see(b"5-");
-    see(b"5+");
-    see(b"5x");
-    see(b"5X");
-    see(b"0x1");
-    see(b"1e3");
-    see(b"1.5");
-    see(b"5/");
-    see(b"5:");
-    see(b"5_0");
-    see(b"5\"");
-}
-
-fn bytes_after_a_number() {
-    show(b"a NUL after a number", b"5\0 6", b"");
-    show(b"a DEL after a number", b"5\x7f 6", b"");
-    show(b"a byte 255 after a number", b"5\xff 6", b"");
-}
-
-fn control_bytes() {
-    show(b"a NUL between words", b"5 \0 6", b"");
-    show(b"a NUL for a separator", b"5\06", b"");
-    show(b"a form feed between words", b"5 \x0c 6", b"");
-    show(b"a form feed for a separator", b"5\x0c6", b"");
-    show(b"a vertical tab before a number", b"5 \x0b6", b"");
-}
-
-fn no_break_spaces() {
-    show(b"a no-break space between words", b"5 \xc2\xa0 6", b"");
-    show(b"a no-break space for a separator", b"5\xc2\xa06", b"");
-    show(b"a no-break space of one byte", b"5\xa06", b"");
-}
-
-fn ranges() {
-    see(b"2147483647");
-    see(b"2147483648");
-    see(b"-2147483648");
-    see(b"-2147483649");
-    see(b"1 99999999999999999999999999 2");
-    see(b"1 2147483648 2");
-}
-
-fn chunks() {
-    show(b"empty", b"", b"");
-    show(b"only separators", b" \t\n\r", b"\r\n\t ");
-    show(b"each separator", b"1\t2\n3\r4 5", b"");
-    show(b"cut by the end", b"12 34", b"");
-    show(b"cut by the end after its minus", b"12 -", b"");
-    show(b"cut by the end of its second chunk", b"12 3", b"4");
-    show(b"a number in two chunks", b"12 -3", b"45 6");
-    show(b"a minus and its number", b"12 -", b"345");
-    show(b"two numbers in two chunks", b"12 ", b"345");
-}
-
 // A chunk so many times.
 fn again(r: Reader, chunk: &[u8], times: usize, numbers: &mut [i32]) -> Reader {
     let mut reader = r;
@@ -141,16 +67,6 @@ fn many(label: &[u8], chunk: &[u8], times: usize, last: &[u8], from: usize) {
     let r = again(start(), chunk, times, &mut numbers);
     let s = more(r, last, &mut numbers);
     end(label, s, &mut numbers, from);
-}
-
-fn lengths() {
-    many(b"4096 readings, the last two", b"7\n", 4095, b"8\n", 4094);
-    many(b"4097 readings, the last two", b"7\n", 4096, b"8\n", 4094);
-    many(b"20000 readings, the last two", b"7\n", 19999, b"8\n", 4094);
-    let zeros = [b'0'; 1000];
-    many(b"100000 zeros and 7", &zeros, 100, b"7", 0);
-    let separators = [b' '; 1000];
-    many(b"100000 spaces and 7", &separators, 100, b"7", 0);
 }
 
 fn say_over(over: bool) {
@@ -185,22 +101,108 @@ fn tell_after(label: &[u8], times: usize, one: &[u8], two: &[u8]) {
     told(label, r, one, two, &mut numbers);
 }
 
-fn words_that_end_them() {
-    tell(b"nothing, a separator", b"", b" ");
-    tell(b"5, a separator", b"5", b" ");
-    tell(b"5, a letter", b"5", b"x");
-    tell(b"5 and a separator, a plus", b"5 ", b"+");
-    tell(b"a minus, a digit", b"-", b"1");
-    tell(b"a minus, a separator", b"-", b" ");
-    tell(b"a minus, a minus", b"-", b"-");
-    tell(b"a letter, a number", b"x", b" 5 ");
+// What is done with a case: an input as its own label; a label and two chunks; a label and two chunks, after each of which it is told.
+enum Way {
+    See,
+    Show,
+    Tell,
 }
 
-fn ranges_that_end_them() {
-    tell(b"214748364, 7", b"214748364", b"7");
-    tell(b"214748364, 8", b"214748364", b"8");
-    tell(b"-214748364, 8", b"-214748364", b"8");
-    tell(b"-214748364, 9", b"-214748364", b"9");
+fn case(way: Way, c: &[u8]) {
+    let label = cases::nth(c, b';', 0);
+    let one = cases::nth(c, b';', 1);
+    let two = cases::nth(c, b';', 2);
+    match way {
+        Way::See => show(c, c, b""),
+        Way::Show => show(label, one, two),
+        Way::Tell => tell(label, one, two),
+    }
+}
+
+fn each(way: Way, all: &[u8]) {
+    let n = cases::count(all, b'|');
+    let mut i = 0;
+    while i < n {
+        case(way, cases::nth(all, b'|', i));
+        i += 1;
+    }
+}
+
+fn words() {
+    each(Way::See, b"5-3|-|-0|007|1,2|+5|--5|- 5|4 5-3 6|4 - 6|");
+}
+
+// A byte of each kind after a number: signs, letters, the neighbours of the digits, other marks.
+fn after_a_number() {
+    each(Way::See, b"5-|5+|5x|5X|0x1|1e3|1.5|5/|5:|5_0|5\"|");
+}
+
+fn other_bytes() {
+    each(
+        Way::Show,
+        b"a NUL after a number;5\0 6|\
+          a DEL after a number;5\x7f 6|\
+          a byte 255 after a number;5\xff 6|\
+          a NUL between words;5 \0 6|\
+          a NUL for a separator;5\06|\
+          a form feed between words;5 \x0c 6|\
+          a form feed for a separator;5\x0c6|\
+          a vertical tab before a number;5 \x0b6|\
+          a no-break space between words;5 \xc2\xa0 6|\
+          a no-break space for a separator;5\xc2\xa06|\
+          a no-break space of one byte;5\xa06|",
+    );
+}
+
+fn ranges() {
+    each(
+        Way::See,
+        b"2147483647|2147483648|-2147483648|-2147483649|1 99999999999999999999999999 2|1 2147483648 2|",
+    );
+}
+
+fn chunks() {
+    each(
+        Way::Show,
+        b"empty|\
+          only separators; \t\n\r;\r\n\t |\
+          each separator;1\t2\n3\r4 5|\
+          cut by the end;12 34|\
+          cut by the end after its minus;12 -|\
+          cut by the end of its second chunk;12 3;4|\
+          a number in two chunks;12 -3;45 6|\
+          a minus and its number;12 -;345|\
+          two numbers in two chunks;12 ;345|",
+    );
+}
+
+fn lengths() {
+    many(b"4096 readings, the last two", b"7\n", 4095, b"8\n", 4094);
+    many(b"4097 readings, the last two", b"7\n", 4096, b"8\n", 4094);
+    many(b"20000 readings, the last two", b"7\n", 19999, b"8\n", 4094);
+}
+
+fn long_words() {
+    many(b"100000 zeros and 7", &[b'0'; 1000], 100, b"7", 0);
+    many(b"100000 spaces and 7", &[b' '; 1000], 100, b"7", 0);
+}
+
+fn words_that_end_them() {
+    each(
+        Way::Tell,
+        b"nothing, a separator;; |\
+          5, a separator;5; |\
+          5, a letter;5;x|\
+          5 and a separator, a plus;5 ;+|\
+          a minus, a digit;-;1|\
+          a minus, a separator;-; |\
+          a minus, a minus;-;-|\
+          a letter, a number;x; 5 |\
+          214748364, 7;214748364;7|\
+          214748364, 8;214748364;8|\
+          -214748364, 8;-214748364;8|\
+          -214748364, 9;-214748364;9|",
+    );
 }
 
 fn full_numbers() {
@@ -212,13 +214,11 @@ fn full_numbers() {
 fn main() {
     words();
     after_a_number();
-    bytes_after_a_number();
-    control_bytes();
-    no_break_spaces();
+    other_bytes();
     ranges();
     chunks();
     lengths();
+    long_words();
     words_that_end_them();
-    ranges_that_end_them();
     full_numbers();
 }

@@ -1,7 +1,17 @@
 // What `show` says of texts: every refusal, with each of its reasons, and every ending that a text can have.
+// A case of standard input is a text, a bar and an input; those after `#` come after the texts that are refused as a whole.
+use libc::STDIN_FILENO;
 use libc::STDOUT_FILENO;
 use limits::Limits;
 use limits::Station;
+use programs::Said;
+
+fn said(s: Said, page: &[u8; pupil::SHOWN]) {
+    io::write_all(STDOUT_FILENO, base::part(page, 0, s.out));
+    io::write_all(STDOUT_FILENO, b"status ");
+    io::print_decimal(STDOUT_FILENO, s.status as u64);
+    io::write_all(STDOUT_FILENO, b"\n");
+}
 
 // The text, run on readings that stand in so many of the numbers.
 fn see_run(text: &[u8], numbers: &[i32], count: usize) {
@@ -12,11 +22,7 @@ fn see_run(text: &[u8], numbers: &[i32], count: usize) {
     let came = programs::lesson(text, &numbers[..count], &mut room);
     let mut page = [7u8; pupil::SHOWN];
     let s = pupil::show(came, words::of_the_paper(), text, &room, &mut page);
-    let n = s.out;
-    io::write_all(STDOUT_FILENO, &page[..n]);
-    io::write_all(STDOUT_FILENO, b"status ");
-    io::print_decimal(STDOUT_FILENO, s.status as u64);
-    io::write_all(STDOUT_FILENO, b"\n");
+    said(s, &page);
 }
 
 fn see(text: &[u8], input: &[u8]) {
@@ -24,42 +30,6 @@ fn see(text: &[u8], input: &[u8]) {
     let reader = readings::more(readings::start(), input, &mut numbers);
     let count = readings::finish(reader, &mut numbers);
     see_run(text, &numbers, count);
-}
-
-fn no_lexemes() {
-    see(b"DO PRINTS \"frost", b"");
-    see(b"DO { INT t t : = 1 }", b"");
-    see(b"DO PRINTI 1a", b"");
-    see(b"DO {\n  PRINTI 1;\n  PRINTI 2\n}\n", b"");
-    see(b"DO PRINTS \xE2\x80\x9Cfrost\xE2\x80\x9D", b"");
-    see(b"DO PRINTS \"Gr\xC3\xBC\xC3\x9Fe\" ;", b"");
-}
-
-fn too_large() {
-    see(b"DO PRINTI 2147483648", b"");
-    see(b"DO READ abcdefghijklmnopqrstuvwxyzabcdefg", b"");
-    see(
-        b"DO PRINTS \"----------------------------------------------------------------------------------------------------------------------------------------------------------------------------------------------------------------------------------------------------------------\"",
-        b"",
-    );
-}
-
-fn sentences() {
-    see(b"", b"");
-    see(b"DO {\n\tINT t\n\tREAD t\n", b"");
-    see(b"DO IF (1 < 2) THEN ERROR", b"");
-    see(
-        b"DO PRINTI ((((((((((((((((((((((((((((((((((1))))))))))))))))))))))))))))))))))",
-        b"",
-    );
-}
-
-fn names() {
-    see(b"DO {\n\tINT total\n\tPRINTI\t\ttotle\n}\n", b"");
-    see(
-        b"DO { INT a INT a INT a INT a INT a INT a INT a INT a INT a INT a INT a INT a INT a INT a INT a INT a INT a INT a INT a INT a INT a INT a INT a INT a INT a INT a INT a INT a INT a INT a INT a INT a INT a INT a INT a INT a INT a INT a INT a INT a INT a INT a INT a INT a INT a INT a INT a INT a INT a INT a INT a INT a INT a INT a INT a INT a INT a INT a INT a INT a INT a INT a INT a INT a INT last }",
-        b"",
-    );
 }
 
 // A sum of so many ones that its code is one instruction too long.
@@ -80,23 +50,28 @@ fn whole_texts() {
     too_much_code();
 }
 
-fn endings() {
-    see(b"DO { INT t READ t PRINTS \"mean \" PRINTI t / 2 }", b"-7");
-    see(b"DO PRINTLNS \"frost\"", b"");
-    see(b"DO PRINTS \"\"", b"");
-    see(b"DO { PRINTS \"no\" ERROR }", b"");
-    see(b"DO WHILE 1 = 1 DO PRINTS \"\"", b"");
-    see(b"DO { INT t READ t PRINTI t READ t }", b"61 x 62");
-    see(b"DO PRINTI 2147483647 + 1", b"");
-    see(b"DO PRINTI 1 / 0", b"");
-    see(b"DO WHILE 1 = 1 DO PRINTS \"12345678\"", b"");
+fn case(c: &[u8]) {
+    see(cases::nth(c, b'|', 0), cases::nth(c, b'|', 1));
+}
+
+fn each(all: &[u8]) {
+    let n = cases::count(all, cases::END);
+    let mut i = 0;
+    while i < n {
+        case(cases::nth(all, cases::END, i));
+        i += 1;
+    }
+}
+
+fn tried(all: &[u8]) {
+    each(cases::nth(all, b'#', 0));
+    whole_texts();
+    each(cases::nth(all, b'#', 1));
 }
 
 fn main() {
-    no_lexemes();
-    too_large();
-    sentences();
-    names();
-    whole_texts();
-    endings();
+    let mut file = [0u8; 8192];
+    let n = io::read_full(STDIN_FILENO, &mut file);
+    cases::put_meant(&mut file);
+    tried(base::part(&file, 0, n));
 }

@@ -1,13 +1,13 @@
--- The place stays in the text.
-use Prim.Native.Nat.{_≤_, _-_}
+-- The text keeps its length. Assumes nothing.
 use mathlib.Core.Path.{_≡_}
-use borrow.Author.Needs.{needs}
+use Prim.Native.Nat.{_-_}
 use lib.ListN.{length}
+use borrow.Author.Needs.{needs}
 use Rattle.compiler_test.proofs.edges.many.Statement.{statement}
 use Rattle.compiler_test.proofs.edges.many.Tie as tie
 
 abbrev Inv-loop : tie.InvT-loop
-Inv-loop text₀ at piece n e₀ i₀ text e i = (length text ≡ length text₀) × (e ≤ length text₀)
+Inv-loop text₀ at piece n e₀ i₀ text e i = length text ≡ length text₀
 
 abbrev μ-loop : tie.MeasureT-loop
 μ-loop text₀ at piece n e₀ i₀ text e i = n - i
@@ -15,8 +15,8 @@ abbrev μ-loop : tie.MeasureT-loop
 loop-holds : tie.Need-loop-holds Inv-loop μ-loop
 loop-holds c = search needs
 
-add-requires : tie.Need-add-requires Inv-loop μ-loop
-add-requires c κs = search needs
+put-requires : tie.Need-put-requires Inv-loop μ-loop
+put-requires c κs = search needs
 
 add-i : tie.Need-add-i Inv-loop μ-loop
 add-i c = search needs
@@ -40,7 +40,7 @@ many-spec =
     Inv-loop
     μ-loop
     loop-holds
-    add-requires
+    put-requires
     add-i
     loop-less
     loop-again
