@@ -29,7 +29,7 @@ use Rattle.compiler.specs.declared.walk.Read.the-variants.{Done, Refused
 use Rattle.compiler.specs.Steps.{moved-to, one-instruction, Follows, Past, Advances, Expects, printing-number, cell-of, noted-walk, cell-number, declared-walk, before-body, ended-walk, ended-table}
 use Rattle.compiler.specs.Tables.{put}
 use Rattle.compiler.specs.Walks.{name-of, Lays, Ready, First, Reads, Reads-command, Reads-block, Reads-string, Reads-declare, Reads-read, Reads-assign}
-use Rattle.compiler.proofs.Commands.{command-way, string-way, declare-way, read-way, assign-way, guarded-way, block-way, block-so-far, quoted-printed, name-declared, name-read, assign-leads, no-becomes, guarded-leads, block-first, block-more, block-closed, block-lost, error-read, Begins, begun-leads}
+use Rattle.compiler.proofs.Commands.{command-way, string-way, declare-way, read-way, assign-way, guarded-way, block-way, block-so-far, quoted-printed, name-declared, name-read, assign-leads, no-becomes, guarded-leads, block-first, block-more, block-closed, block-lost, error-read, Starts, begun-leads}
 use Rattle.compiler.proofs.Lays.{quoted, guarded, lead, lays-error, lays-quoted, lays-guarded, lays-single, lays-then, ready-body}
 use Rattle.compiler.proofs.Looked.{quoted-of, going}
 use Rattle.compiler.proofs.Names.{noted-is, declared-is, lays-declare, lays-input, lays-assign, lays-block, ready-noted}
@@ -160,7 +160,7 @@ module _ {text names : List ℕ} {w x : Walk} {allow : ℕ} (f : First text name
   ready-first {fewer} h = ready-past (f .ready) fewer h (f .past)
 
   -- what is read after it is the command
-  pub reads-begun : {deeper : ℕ} {start : Around command → State} → Begins (f .ready .stands) deeper start → {allow′ : ℕ} (table : List ℤ) (q : Read) (names′ : List ℕ) (table′ : List ℤ) → deeper ≤ allow → allow′ ≡ allow →
+  pub reads-begun : {deeper : ℕ} {start : Around command → State} → Starts (f .ready .stands) deeper start → {allow′ : ℕ} (table : List ℤ) (q : Read) (names′ : List ℕ) (table′ : List ℤ) → deeper ≤ allow → allow′ ≡ allow →
       Reads command start after-command text names table x allow′ q names′ table′ → Reads-command text names table w allow q names′ table′
   reads-begun b table q names′ table′ d e h =
       handed-on (begun-leads (f .ready .stands) b d e (f .past .follows))

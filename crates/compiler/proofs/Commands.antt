@@ -188,39 +188,39 @@ module _ {text : List ℕ} {l : code.Lexeme} (s : Stands text l) where
   error-read allow h next = ends-command s allow want-command error (going l h (λ z. omega arith)) next (λ a. rw (told-fixed s ERROR h))
 
   -- the lexeme begins a command, and opens so many nestings: what is wanted after it
-  pub record Begins (deeper : ℕ) (start : Around command → State) : Type 0 where
+  pub record Starts (deeper : ℕ) (start : Around command → State) : Type 0 where
     pub goes : Ends l → ⊥
     pub to : (a : Around command) → at-command a (told text l) ≡ start a
     pub deep : (a : Around command) → verdict (start a) ≡ goes-on (depth a + deeper)
 
-  begins-fixed : (w : Fixed) (deeper : ℕ) (start : Around command → State) → fixed-number (l .kind) ≡ code-of w → (code-of w ≡ 0 → ⊥) → ((a : Around command) → at-command a (fixed w) ≡ start a) → ((a : Around command) → verdict (start a) ≡ goes-on (depth a + deeper)) → Begins deeper start
+  begins-fixed : (w : Fixed) (deeper : ℕ) (start : Around command → State) → fixed-number (l .kind) ≡ code-of w → (code-of w ≡ 0 → ⊥) → ((a : Around command) → at-command a (fixed w) ≡ start a) → ((a : Around command) → verdict (start a) ≡ goes-on (depth a + deeper)) → Starts deeper start
   begins-fixed w deeper start h g t d = record { goes = going l h g; to = λ a. rw (told-fixed s w h) (t a); deep = d }
 
-  pub begins-assign : l .kind ≡ kind.Name → Begins 0 (want-becomes (name-of text l))
+  pub begins-assign : l .kind ≡ kind.Name → Starts 0 (want-becomes (name-of text l))
   unfolding at-command on is on-name verdict
   begins-assign h = record { goes = name-goes l h; to = λ a. rw (told-name text l h); deep = λ a. rw add-zero }
 
-  pub begins-declare : fixed-number (l .kind) ≡ code-of INT → Begins 0 want-declared
+  pub begins-declare : fixed-number (l .kind) ≡ code-of INT → Starts 0 want-declared
   unfolding is at-command on on-name code-of verdict
   begins-declare h = begins-fixed INT 0 want-declared h (λ z. omega arith) (λ a. refl) (λ a. rw add-zero)
 
-  pub begins-print : fixed-number (l .kind) ≡ code-of PRINTI → Begins 0 (λ a. want-expression (in-print a))
+  pub begins-print : fixed-number (l .kind) ≡ code-of PRINTI → Starts 0 (λ a. want-expression (in-print a))
   unfolding is at-command on on-name code-of verdict depth
   begins-print h = begins-fixed PRINTI 0 (λ a. want-expression (in-print a)) h (λ z. omega arith) (λ a. refl) (λ a. rw add-zero)
 
-  pub begins-line : fixed-number (l .kind) ≡ code-of PRINTLNS → Begins 0 (want-quoted true)
+  pub begins-line : fixed-number (l .kind) ≡ code-of PRINTLNS → Starts 0 (want-quoted true)
   unfolding is at-command on on-name code-of verdict want-quoted
   begins-line h = begins-fixed PRINTLNS 0 (want-quoted true) h (λ z. omega arith) (λ a. refl) (λ a. rw add-zero)
 
-  pub begins-string : fixed-number (l .kind) ≡ code-of PRINTS → Begins 0 (want-quoted false)
+  pub begins-string : fixed-number (l .kind) ≡ code-of PRINTS → Starts 0 (want-quoted false)
   unfolding is at-command on on-name code-of verdict want-quoted
   begins-string h = begins-fixed PRINTS 0 (want-quoted false) h (λ z. omega arith) (λ a. refl) (λ a. rw add-zero)
 
-  pub begins-read : fixed-number (l .kind) ≡ code-of READ → Begins 0 want-read
+  pub begins-read : fixed-number (l .kind) ≡ code-of READ → Starts 0 want-read
   unfolding is at-command on on-name code-of verdict
   begins-read h = begins-fixed READ 0 want-read h (λ z. omega arith) (λ a. refl) (λ a. rw add-zero)
 
-  pub begins-nested : has-body (fixed-number (l .kind)) ≡ true → Begins 1 (want-nested (fixed-number (l .kind)))
+  pub begins-nested : has-body (fixed-number (l .kind)) ≡ true → Starts 1 (want-nested (fixed-number (l .kind)))
   unfolding has-body is at-command on on-name code-of verdict depth want-guarded want-nested
   begins-nested h = elim (either (fixed-number (l .kind)) (code-of IF) _ h) [
     | inl e ↦ rw e (begins-fixed IF 1 (want-guarded false) e (λ z. omega arith) (λ a. refl) (λ a. rw add-one))
@@ -230,7 +230,7 @@ module _ {text : List ℕ} {l : code.Lexeme} (s : Stands text l) where
     ]
   ]
 
-  module _ {deeper : ℕ} {start : Around command → State} (b : Begins deeper start) where
+  module _ {deeper : ℕ} {start : Around command → State} (b : Starts deeper start) where
     pub begun-leads : {m : code.Lexeme} {allow allow′ : ℕ} → deeper ≤ allow → allow′ ≡ allow → Follows text l m → Leads text l m allow command-way allow′ (command-from start) (λ m. m)
     unfolding step
     begun-leads d e next = crosses s (λ a. a) (le-refl (l .place)) stays refl (b .goes) next (λ a. omega arith) (b .to) (λ a. rw (b .deep a) (omega arith)) (λ m. refl)

@@ -37,7 +37,7 @@ use Rattle.compiler.specs.declared.walk.Read.the-variants as read
 use Rattle.compiler.specs.declared.Counts.{Counts}
 use Rattle.compiler.specs.declared.Answer.{Answer}
 use Rattle.compiler.specs.declared.Answer.the-variants.{Accepted, Refused}
-use Rattle.compiler.specs.Answers.{answered, Says, Measured, settled-by, Written}
+use Rattle.compiler.specs.Answers.{answered, Compiles, Measured, settled-by, Written}
 use Rattle.compiler.specs.Compiled as C
 use Rattle.compiler.specs.Compiled.{short-enough, code-of-text, at-most, measured, judged, compiled, filled, table-after}
 use Rattle.compiler.specs.Steps.{start-at}
@@ -278,31 +278,31 @@ module _ (limits : Limits) (text : List ℕ) {a : Answer} (e : a ≡ answered (j
 
 module _ (limits : Limits) (text : List ℕ) (n : ℕ) (table : List ℤ) (zeros : table ≡ replicate n (pos 0)) where
   -- a refused text leaves the table as it was cleared
-  says-refused : {a : A.Answer C.Accepted} {why : Refusal} {p : ℕ} → a ≡ refused why p → Says a n (Refused why p) table
+  says-refused : {a : A.Answer C.Accepted} {why : Refusal} {p : ℕ} → a ≡ refused why p → Compiles a n (Refused why p) table
   unfolding answered table-after filled
   says-refused h = rw h (record { answer = refl; numbers = rw (zeros, sub-zero n) })
 
   module _ {a : Answer} (e : a ≡ answered (judged limits text)) where
     -- by what `judge` decides
-    pub by-judging : {why : Refusal} {p : ℕ} → a ≡ Refused why p → Says (compiled limits text n) n a table
+    pub by-judging : {why : Refusal} {p : ℕ} → a ≡ Refused why p → Compiles (compiled limits text n) n a table
     unfolding compiled pass answered
     by-judging {why} {p} is = rw is (by (judged limits text) (sym is ∙ e))
       where
-        by : (x : A.Answer C.Accepted) → Refused why p ≡ answered x → Says (pass x (at-most (n / 2))) n (Refused why p) table
+        by : (x : A.Answer C.Accepted) → Refused why p ≡ answered x → Compiles (pass x (at-most (n / 2))) n (Refused why p) table
         by (given b) h = let z : _≡_ {A = ℕ} 0 1 = cc in absurd (omega arith)
         by (refused k q) h = says-refused cc
 
     module _ {c : Counts} (is : a ≡ Accepted c) where
       -- by 8, for want of room
-      pub by-room : n / 2 < c .instructions → Says (compiled limits text n) n (Refused TooMuchCode 0) table
+      pub by-room : n / 2 < c .instructions → Compiles (compiled limits text n) n (Refused TooMuchCode 0) table
       unfolding compiled pass at-most code-of-text
       by-room h = let s = accepted limits text e is in says-refused (rw (s .is, s .long, lt-ltb (n / 2) (c .instructions) h))
 
-      pub by-none : c .instructions ≤ n / 2 → limits .sizes .literal ≤ 2147483647 → (table′ : List ℤ) → Written (limits .nesting) (limits .declarations) text (c .cells) table table′ → Says (compiled limits text n) n (Accepted c) table′
+      pub by-none : c .instructions ≤ n / 2 → limits .sizes .literal ≤ 2147483647 → (table′ : List ℤ) → Written (limits .nesting) (limits .declarations) text (c .cells) table table′ → Compiles (compiled limits text n) n (Accepted c) table′
       unfolding compiled pass at-most Written table-after code-of-text
       by-none h small table′ w = by (accepted limits text e is)
         where
-          by : Accepts limits text c → Says (pass (judged limits text) (at-most (n / 2))) n (Accepted c) table′
+          by : Accepts limits text c → Compiles (pass (judged limits text) (at-most (n / 2))) n (Accepted c) table′
           by s =
               rw (s .is, s .long, le-ltb (n / 2) (c .instructions) h)
               (record {

@@ -29,19 +29,19 @@ use Rattle.compiler.proofs.Emits.{emit-code, emit-one, put-before, mul-
 
 -- ---- answers
 
--- the answer o leads to the scope s, or its refusal, and what it gives has P
-pub data Leads {A : Type 0} (P : A → Type 0) (s : Answer Scope) (o : Answer (Known A)) : Type 0 where
-  gives : (r : Known A) → o ≡ given r → s ≡ given (r .scope) → P (r .what) → Leads P s o
-  refuses : (why : Refusal) (p : ℕ) → o ≡ refused why p → s ≡ refused why p → Leads P s o
+-- the answer o agrees to the scope s, or its refusal, and what it gives has P
+pub data Agrees {A : Type 0} (P : A → Type 0) (s : Answer Scope) (o : Answer (Known A)) : Type 0 where
+  gives : (r : Known A) → o ≡ given r → s ≡ given (r .scope) → P (r .what) → Agrees P s o
+  refuses : (why : Refusal) (p : ℕ) → o ≡ refused why p → s ≡ refused why p → Agrees P s o
 
 pub never : {A C : Type 0} {a : A} {why : Refusal} {p : ℕ} → given a ≡ refused why p → C
 never e = let z : _≡_ {A = ℕ} 0 1 = cc in absurd (omega arith)
 
-given-has : {A : Type 0} {P : A → Type 0} {s : Answer Scope} {o : Answer (Known A)} → Leads P s o → (r : Known A) → o ≡ given r → P (r .what)
+given-has : {A : Type 0} {P : A → Type 0} {s : Answer Scope} {o : Answer (Known A)} → Agrees P s o → (r : Known A) → o ≡ given r → P (r .what)
 given-has (gives r e d p) q f = let h : r ≡ q = cc in rw (← h) p
 given-has (refuses why i e d) q f = never (sym f ∙ e)
 
-refused-is : {A : Type 0} {P : A → Type 0} {s : Answer Scope} {o : Answer (Known A)} {why : Refusal} {p : ℕ} → Leads P s o → o ≡ refused why p → s ≡ refused why p
+refused-is : {A : Type 0} {P : A → Type 0} {s : Answer Scope} {o : Answer (Known A)} {why : Refusal} {p : ℕ} → Agrees P s o → o ≡ refused why p → s ≡ refused why p
 refused-is (gives r e d q) f = never (sym e ∙ f)
 refused-is (refuses why i e d) f = cc
 
@@ -59,35 +59,35 @@ module _ {A B : Type 0} (m : Naming A) (f : A → Naming B) (s : Answer Scope) w
   unfolding pass
   bind-refused why p e = bound m f s ∙ ap (λ o. pass o (λ a. f (a .what) (a .scope))) e
 
-leads-give : {A : Type 0} {P : A → Type 0} (a : A) (s : Answer Scope) → P a → Leads P s (pass s (give a))
+agrees-give : {A : Type 0} {P : A → Type 0} (a : A) (s : Answer Scope) → P a → Agrees P s (pass s (give a))
 unfolding pass give
-leads-give a (given s) p = gives (record { what = a; scope = s }) refl refl p
-leads-give a (refused why q) p = refuses why q refl refl
+agrees-give a (given s) p = gives (record { what = a; scope = s }) refl refl p
+agrees-give a (refused why q) p = refuses why q refl refl
 
 module _ {A C : Type 0} {P : A → Type 0} {R : C → Type 0} {s′ : Answer Scope} where
-  pub leads-one : (f : A → C) → ((a : A) → P a → R (f a)) → (m : Naming A) (s : Answer Scope) → Leads P s′ (pass s m) → Leads R s′ (pass s (m >>= λ a. give (f a)))
+  pub agrees-one : (f : A → C) → ((a : A) → P a → R (f a)) → (m : Naming A) (s : Answer Scope) → Agrees P s′ (pass s m) → Agrees R s′ (pass s (m >>= λ a. give (f a)))
   unfolding give
-  leads-one f makes m s (gives r e d p) = gives (record { what = f (r .what); scope = r .scope }) (bind-given m (λ a. give (f a)) s r e) d (makes (r .what) p)
-  leads-one f makes m s (refuses why i e d) = refuses why i (bind-refused m (λ a. give (f a)) s why i e) d
+  agrees-one f makes m s (gives r e d p) = gives (record { what = f (r .what); scope = r .scope }) (bind-given m (λ a. give (f a)) s r e) d (makes (r .what) p)
+  agrees-one f makes m s (refuses why i e d) = refuses why i (bind-refused m (λ a. give (f a)) s why i e) d
 
 module _ {A B C : Type 0} {P : A → Type 0} {Q : B → Type 0} {R : C → Type 0} {s₁ s₂ : Answer Scope} where
-  pub leads-two : (f : A → B → C) → ((a : A) (b : B) → P a → Q b → R (f a b)) → (m : Naming A) (n : Naming B) (s : Answer Scope) →
-      Leads P s₁ (pass s m) → Leads Q s₂ (pass s₁ n) → Leads R s₂ (pass s (m >>= λ a. n >>= λ b. give (f a b)))
+  pub agrees-two : (f : A → B → C) → ((a : A) (b : B) → P a → Q b → R (f a b)) → (m : Naming A) (n : Naming B) (s : Answer Scope) →
+      Agrees P s₁ (pass s m) → Agrees Q s₂ (pass s₁ n) → Agrees R s₂ (pass s (m >>= λ a. n >>= λ b. give (f a b)))
   unfolding pass
-  leads-two f makes m n s (gives r e d p) q =
+  agrees-two f makes m n s (gives r e d p) q =
       rw (bind-given m (λ a. n >>= λ b. give (f a b)) s r e)
-      (leads-one (f (r .what)) (λ b. makes (r .what) b p) n (given (r .scope)) (subst (λ t. Leads Q s₂ (pass t n)) d q))
-  leads-two f makes m n s (refuses why i e d) q =
+      (agrees-one (f (r .what)) (λ b. makes (r .what) b p) n (given (r .scope)) (subst (λ t. Agrees Q s₂ (pass t n)) d q))
+  agrees-two f makes m n s (refuses why i e d) q =
       refuses why i (bind-refused m (λ a. n >>= λ b. give (f a b)) s why i e) (refused-is q (ap (λ t. pass t n) d))
 
 -- ---- what a walk promises, as such an answer
 
 abbrev pub Led : {k : Kind} → List ℕ → List ℕ → List ℤ → Walk → Sen Name k → List ℕ → List ℤ → Walk → Gives → Type 0
-Led text names table w x names′ table′ v g = Leads (Laid table table′ w v g) (stand text names′ v) (pass (stand text names w) (resolve (room names) x))
+Led text names table w x names′ table′ v g = Agrees (Laid table table′ w v g) (stand text names′ v) (pass (stand text names w) (resolve (room names) x))
 
 module _ {k : Kind} {text names names′ : List ℕ} {table table′ : List ℤ} {w v : Walk} {g : Gives} {x : Sen Name k} where
-  pub leads : Lays text names table w x names′ table′ v g → Led text names table w x names′ table′ v g
-  leads p = by (pass (stand text names w) (resolve (room names) x)) refl
+  pub agrees : Lays text names table w x names′ table′ v g → Led text names table w x names′ table′ v g
+  agrees p = by (pass (stand text names w) (resolve (room names) x)) refl
     where
       by : (o : Answer (Known (Sen ℕ k))) → pass (stand text names w) (resolve (room names) x) ≡ o → Led text names table w x names′ table′ v g
       by (given r) e = unfold pass scope-of named in gives r e (p .naming ∙ ap (λ o. pass o scope-of) e) (p .laying r e)
@@ -133,7 +133,7 @@ module _ {text names : List ℕ} {table : List ℤ} {w : Walk} where
   lays-alone : {k : Kind} (x : Sen Name k) (z : Sen ℕ k) (i : Instruction) (n : ℕ) → resolve (room names) x ≡ give z → size z ≡ 1 → need z ≡ n → n ≤ 1 → code (w .code) z ≡ i ∷ [] →
       (m : Lexeme) → w .next .place < m .place → Sound names → Lays text names table w x names (put table (w .code) (pair i [])) (moved-to (one-instruction w) m) (record { need = n })
   unfolding moved-to one-instruction stand
-  lays-alone {k} x z i n e s d l c m h f = lays (rw e (leads-give z (stand text names w) written)) (omega (arith, few k)) f (kept-all names)
+  lays-alone {k} x z i n e s d l c m h f = lays (rw e (agrees-give z (stand text names w) written)) (omega (arith, few k)) f (kept-all names)
     where
       written : Laid table (put table (w .code) (pair i [])) w (moved-to (one-instruction w) m) (record { need = n }) z
       written = record { code = ap (λ j. w .code + j) (sym s); need = sym d; numbers = sym (ap (emit table (w .code)) c ∙ emit-one table (w .code) i) }
@@ -167,7 +167,7 @@ laid-more {table} {table′} {w} {u} {v} {y} z i a s d c p = record {
 module _ {k l : Kind} {text names names′ : List ℕ} {table table′ : List ℤ} {w v : Walk} {g : Gives} {x : Sen Name k} {z : Sen Name l} (make : Sen ℕ k → Sen ℕ l) (e : resolve (room names) z ≡ (resolve (room names) x >>= λ a. give (make a))) where
   -- with the code of its part
   lays-same : spare l ≤ spare k → ((y : Sen ℕ k) → size (make y) ≡ size y) → ((y : Sen ℕ k) → need (make y) ≡ need y) → ((a : ℕ) (y : Sen ℕ k) → code a (make y) ≡ code a y) → Lays text names table w x names′ table′ v g → Lays text names table w z names′ table′ v g
-  lays-same h s d c p = lays (rw e (leads-one make written (resolve (room names) x) (stand text names w) (leads p))) (omega (arith, p .small)) (p .sound) (p .kept)
+  lays-same h s d c p = lays (rw e (agrees-one make written (resolve (room names) x) (stand text names w) (agrees p))) (omega (arith, p .small)) (p .sound) (p .kept)
     where
       written : (y : Sen ℕ k) → Laid table table′ w v g y → Laid table table′ w v g (make y)
       written y q = record { code = rw (s y) (q .code); need = rw (d y) (q .need); numbers = rw (c (w .code) y) (q .numbers) }
@@ -177,7 +177,7 @@ module _ {k l : Kind} {text names names′ : List ℕ} {table table′ : List �
       (m : Lexeme) → w .next .place ≤ m .place → 4 * w .next .place + 1 + spare l ≤ 4 * m .place + spare k → Lays text names table (moved-to w m) x names′ table′ v g → Lays text names table w z names′ (put table′ (v .code) (pair i [])) (one-instruction v) g
   unfolding moved-to one-instruction stand
   lays-more i s d c m h j p =
-      lays (rw e (leads-one make (λ y. laid-more (make y) i refl (s y) (d y) (c (w .code) y)) (resolve (room names) x) (stand text names w) (leads p))) (omega (arith, p .small)) (p .sound) (p .kept)
+      lays (rw e (agrees-one make (λ y. laid-more (make y) i refl (s y) (d y) (c (w .code) y)) (resolve (room names) x) (stand text names w) (agrees p))) (omega (arith, p .small)) (p .sound) (p .kept)
 
 module _ {text names names′ : List ℕ} {table table′ : List ℤ} {w v : Walk} {g : Gives} where
   pub lays-bracket : {x : Sen Name expression} → Lays text names table w x names′ table′ v g → Lays text names table w (bracket x) names′ table′ v g
@@ -219,11 +219,11 @@ module _ {k j l : Kind} {text names names₁ names₂ : List ℕ} {table table�
       Lays text names table w x names₁ table₁ c g → Lays text names₁ table₁ u y names₂ table₂ v₂ h → stand text names₁ u ≡ stand text names₁ c → stand text names₂ v₂ ≡ stand text names₂ v →
       ((a : Sen ℕ k) (b : Sen ℕ j) → Laid table table₁ w c g a → Laid table₁ table₂ u v₂ h b → Laid table table₃ w v d (make a b)) → Small l w v d → Sound names₂ → Lays text names table w z names₂ table₃ v d
   lays-two make e p q a b f s t =
-      lays (rw (e, ← b) (leads-two make f (resolve (room names) x) (resolve (room names) y) (stand text names w) (leads p) after)) s t
+      lays (rw (e, ← b) (agrees-two make f (resolve (room names) x) (resolve (room names) y) (stand text names w) (agrees p) after)) s t
       (kept-then (p .kept) (q .kept))
     where
-      after : Leads (Laid table₁ table₂ u v₂ h) (stand text names₂ v₂) (pass (stand text names₁ c) (resolve (room names) y))
-      after = rw (← a, ← p .kept .long) (leads q)
+      after : Agrees (Laid table₁ table₂ u v₂ h) (stand text names₂ v₂) (pass (stand text names₁ c) (resolve (room names) y))
+      after = rw (← a, ← p .kept .long) (agrees q)
 
 -- the code of both parts, then an operation
 laid-joined : {k j l : Kind} {table table₁ table₂ : List ℤ} {w c v : Walk} {g h : Gives} {x : Sen ℕ k} {y : Sen ℕ j} (z : Sen ℕ l) (o : Two-sided) (n : ℤ) (m : Lexeme) → n ≡ number o →

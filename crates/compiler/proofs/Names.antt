@@ -31,7 +31,7 @@ use Rattle.compiler.specs.Steps.{moved-to, one-instruction, first-fault,
 use Rattle.compiler.specs.Tables.{put, emit}
 use Rattle.compiler.specs.Walks.{standing, stand, Laid, spare, Lays, Ready, name-of}
 use Rattle.compiler.proofs.Emits.{emit-one}
-use Rattle.compiler.proofs.Lays.{Leads, gives, refuses, never, leads-one, leads-two, leads, lays, laid-more}
+use Rattle.compiler.proofs.Lays.{Agrees, gives, refuses, never, agrees-one, agrees-two, agrees, lays, laid-more}
 
 -- ---- a use
 
@@ -52,12 +52,12 @@ module _ (text names : List ℕ) (sound : Sound names) (l : Lexeme) where
   cell-fits k e = operand-is k (omega (arith, sound .size, sound .declared, found-low text names (part text (l .place) (l .end)) k sound e))
 
   -- a use gives its cell, or its refusal unless there was one before
-  leads-used : (w : Walk) → Leads (λ k. cell-number (cell-of text names l) ≡ k) (standing (noted-walk (cell-of text names l) w (l .place) .fault) (scope-in text names)) (pass (stand text names w) (used (name-of text l)))
+  agrees-used : (w : Walk) → Agrees (λ k. cell-number (cell-of text names l) ≡ k) (standing (noted-walk (cell-of text names l) w (l .place) .fault) (scope-in text names)) (pass (stand text names w) (used (name-of text l)))
   unfolding stand
-  leads-used w = by (cell-of text names l) refl (w .fault)
+  agrees-used w = by (cell-of text names l) refl (w .fault)
     where
       by : (c : Cell) → cell-of text names l ≡ c → (f : NameFault) →
-          Leads (λ k. cell-number c ≡ k) (standing (noted-walk c (record { next = w .next; code = w .code; fault = f }) (l .place) .fault) (scope-in text names)) (pass (standing f (scope-in text names)) (used (name-of text l)))
+          Agrees (λ k. cell-number c ≡ k) (standing (noted-walk c (record { next = w .next; code = w .code; fault = f }) (l .place) .fault) (scope-in text names)) (pass (standing f (scope-in text names)) (used (name-of text l)))
       by (At k) e Nothing = unfold noted-walk standing pass cell-of name-of in gives (record { what = k; scope = scope-in text names }) (used-at text names (name-of text l) k e) refl (cell-fits k e)
       by Nowhere e Nothing = unfold noted-walk faulted-walk first-fault standing pass cell-of name-of in refuses Undeclared (l .place) (used-nowhere text names (name-of text l) e) refl
       by (At k) e (Is why p) = unfold noted-walk standing pass in refuses why p refl refl
@@ -75,7 +75,7 @@ module _ {text names : List ℕ} {table : List ℤ} {w : Walk} where
   lays-variable m h f =
       let c = cell-of text names (w .next) in
       rw (noted-is c w (w .next .place))
-      (lays (leads-one variable (λ k e. record { code = refl; need = refl; numbers = sym (emit-one table (w .code) (load-stack k) ∙ rw e) }) (used (name-of text (w .next))) (stand text names w) (leads-used text names f (w .next) w))
+      (lays (agrees-one variable (λ k e. record { code = refl; need = refl; numbers = sym (emit-one table (w .code) (load-stack k) ∙ rw e) }) (used (name-of text (w .next))) (stand text names w) (agrees-used text names f (w .next) w))
       (omega arith) f (kept-all names))
 
   pub lays-input : (m : Lexeme) → w .next .place < m .place → Sound names → let c = cell-of text names (w .next) in
@@ -84,7 +84,7 @@ module _ {text names : List ℕ} {table : List ℤ} {w : Walk} where
   lays-input m h f =
       let c = cell-of text names (w .next) in
       rw (noted-is c (one-instruction w) (w .next .place))
-      (lays (leads-one input (λ k e. rw e (laid-pair (input k) read (store-stack k) (omega arith) refl refl refl)) (used (name-of text (w .next))) (stand text names w) (leads-used text names f (w .next) (one-instruction w)))
+      (lays (agrees-one input (λ k e. rw e (laid-pair (input k) read (store-stack k) (omega arith) refl refl refl)) (used (name-of text (w .next))) (stand text names w) (agrees-used text names f (w .next) (one-instruction w)))
       (omega arith) f (kept-all names))
 
   pub lays-assign : {table′ : List ℤ} {v : Walk} {g : Gives} {x : Sen Name expression} (l m : Lexeme) → w .next .place ≤ m .place → Sound names → let c = cell-of text names l in
@@ -93,7 +93,7 @@ module _ {text names : List ℕ} {table : List ℤ} {w : Walk} where
   lays-assign {x} l m h f p =
       let c = cell-of text names l in
       let q = rw (noted-is c w (l .place)) at p in
-      lays (leads-two assign (λ k y e r. rw e (laid-more (assign k y) (store-stack k) refl refl refl refl r)) (used (name-of text l)) (resolve (room names) x) (stand text names w) (leads-used text names f l w) (leads q))
+      lays (agrees-two assign (λ k y e r. rw e (laid-more (assign k y) (store-stack k) refl refl refl refl r)) (used (name-of text l)) (resolve (room names) x) (stand text names w) (agrees-used text names f l w) (agrees q))
       (omega (arith, q .small)) f (kept-all names)
 
 -- ---- a declaration
@@ -114,12 +114,12 @@ module _ (names : List ℕ) (sound : Sound names) (w : Walk) (text : List ℕ) w
   abbrev as-found : NameFault → Walk
   as-found f = record { next = w .next; code = w .code; fault = f }
 
-  leads-declared : Leads (λ k. counts names .«next_cell» ≡ k) (stand text names-after (declared-walk names w)) (pass (stand text names w) (declared-here (room names) (name-of text (w .next))))
+  agrees-declared : Agrees (λ k. counts names .«next_cell» ≡ k) (stand text names-after (declared-walk names w)) (pass (stand text names w) (declared-here (room names) (name-of text (w .next))))
   unfolding stand declared-walk
-  leads-declared = by (ltb (counts names .declared) (room names)) refl (w .fault)
+  agrees-declared = by (ltb (counts names .declared) (room names)) refl (w .fault)
     where
       by : (b : Bool) → ltb (counts names .declared) (room names) ≡ b → (f : NameFault) →
-          Leads (λ k. counts names .«next_cell» ≡ k) (standing (cond b (as-found f) (faulted-walk (as-found f) TooManyDeclared (w .next .place)) .fault) (scope-in text names-after)) (pass (standing f (scope-in text names)) (declared-here (room names) (name-of text (w .next))))
+          Agrees (λ k. counts names .«next_cell» ≡ k) (standing (cond b (as-found f) (faulted-walk (as-found f) TooManyDeclared (w .next .place)) .fault) (scope-in text names-after)) (pass (standing f (scope-in text names)) (declared-here (room names) (name-of text (w .next))))
       by true h Nothing = unfold standing pass name-of in
           gives (record { what = counts names .«next_cell»; scope = scope-in text names-after }) (declared-given names (w .next .place) (w .next .end) sound (ltb-true (counts names .declared) (room names) h) text (name-of text (w .next)) refl) refl refl
       by false h Nothing = unfold faulted-walk first-fault standing pass name-of in
@@ -134,8 +134,8 @@ module _ {text names : List ℕ} {table : List ℤ} {w : Walk} where
   lays-declare m h f =
       let y = one-instruction (one-instruction w) in
       let c = ap (λ (v : Walk). v .code) (declared-is names y) in
-      lays (leads-one declare (λ k e. rw (← e) (laid-pair (declare (counts names .«next_cell»)) (push-int (pos 0)) (store-stack (counts names .«next_cell»)) (omega (arith, c)) refl refl refl))
-      (declared-here (room names) (name-of text (w .next))) (stand text names w) (leads-declared names f y text))
+      lays (agrees-one declare (λ k e. rw (← e) (laid-pair (declare (counts names .«next_cell»)) (push-int (pos 0)) (store-stack (counts names .«next_cell»)) (omega (arith, c)) refl refl refl))
+      (declared-here (room names) (name-of text (w .next))) (stand text names w) (agrees-declared names f y text))
       (omega (arith, c)) (declared-sound names (w .next .place) (w .next .end) f) (declared-kept names (w .next .place) (w .next .end) f)
 
 -- ---- a block
@@ -145,15 +145,15 @@ abbrev outside : {A : Type 0} → N.Scope → Known A → Answer (Known A)
 outside s a = given (record { what = a .what; scope = closed s (a .scope) })
 
 module _ {A : Type 0} {P : A → Type 0} (m : Naming A) (s t : N.Scope) where
-  leads-scoped : (f h : NameFault) → Leads P (standing h t) (pass (standing f (opened s)) m) → Leads P (standing h (closed s t)) (pass (standing f s) (scoped m))
+  agrees-scoped : (f h : NameFault) → Agrees P (standing h t) (pass (standing f (opened s)) m) → Agrees P (standing h (closed s t)) (pass (standing f s) (scoped m))
   unfolding standing pass scoped
-  leads-scoped Nothing Nothing (gives r e d p) = let j : t ≡ r .scope = cc in gives (record { what = r .what; scope = closed s (r .scope) }) (ap (λ o. pass o (outside s)) e) (ap (λ u. given (closed s u)) j) p
-  leads-scoped Nothing Nothing (refuses why i e d) = never d
-  leads-scoped Nothing (Is _ _) (gives r e d p) = never (sym d)
-  leads-scoped Nothing (Is _ _) (refuses why i e d) = refuses why i (ap (λ o. pass o (outside s)) e) d
-  leads-scoped (Is _ _) h (gives r e d p) = never (sym e)
-  leads-scoped (Is _ _) Nothing (refuses why i e d) = never d
-  leads-scoped (Is _ _) (Is _ _) (refuses why i e d) = refuses why i e d
+  agrees-scoped Nothing Nothing (gives r e d p) = let j : t ≡ r .scope = cc in gives (record { what = r .what; scope = closed s (r .scope) }) (ap (λ o. pass o (outside s)) e) (ap (λ u. given (closed s u)) j) p
+  agrees-scoped Nothing Nothing (refuses why i e d) = never d
+  agrees-scoped Nothing (Is _ _) (gives r e d p) = never (sym d)
+  agrees-scoped Nothing (Is _ _) (refuses why i e d) = refuses why i (ap (λ o. pass o (outside s)) e) d
+  agrees-scoped (Is _ _) h (gives r e d p) = never (sym e)
+  agrees-scoped (Is _ _) Nothing (refuses why i e d) = never d
+  agrees-scoped (Is _ _) (Is _ _) (refuses why i e d) = refuses why i e d
 
 module _ {text names names′ : List ℕ} {table table′ : List ℤ} {w v : Walk} {g : Gives} {x : Sen Name commands} where
   pub lays-block : Sound names → counts names .blocks < 1000000 → Lays text (opened-in names) table w x names′ table′ v g → (m : Lexeme) → v .next .place ≤ m .place → Lays text names table w (block x) (closed-in names′ (counts names)) table′ (moved-to v m) g
@@ -161,8 +161,8 @@ module _ {text names names′ : List ℕ} {table table′ : List ℤ} {w v : Wal
   lays-block f few p m h =
       let long : room (opened-in names) ≡ room names = ap (λ (n : ℕ). (n - 5) / 4) (opened-long names f few) in
       lays (rw (closed-scope-in names f few names′ (p .kept) (p .sound) text)
-      (leads-one block (λ y q. record { code = q .code; need = q .need; numbers = q .numbers }) (scoped (resolve (room names) x)) (stand text names w)
-      (leads-scoped (resolve (room names) x) (scope-in text names) (scope-in text names′) (w .fault) (v .fault) (rw (opened-scope-in names f few text, long) at (leads p)))))
+      (agrees-one block (λ y q. record { code = q .code; need = q .need; numbers = q .numbers }) (scoped (resolve (room names) x)) (stand text names w)
+      (agrees-scoped (resolve (room names) x) (scope-in text names) (scope-in text names′) (w .fault) (v .fault) (rw (opened-scope-in names f few text, long) at (agrees p)))))
       (omega (arith, p .small))
       (closed-sound names f few names′ (p .kept) (p .sound))
       (closed-kept names f few names′ (p .kept) (p .sound))

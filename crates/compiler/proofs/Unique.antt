@@ -5,12 +5,12 @@ use Prim.Native.Nat.{ℕ}
 use lib.IntN.{ℤ}
 use Rattle.limits.specs.Limits.{Limits}
 use Rattle.compiler.specs.declared.Answer.{Answer}
-use Rattle.compiler.specs.Answers.{answered, Says}
+use Rattle.compiler.specs.Answers.{answered, Compiles}
 use Rattle.compiler.specs.Compiled.{judged, compiled}
 
 module _ (limits : Limits) (text : List ℕ) where
   pub judged-unique : (r r′ : Answer) → r ≡ answered (judged limits text) → r′ ≡ answered (judged limits text) → r ≡ r′
   judged-unique r r′ e e′ = e ∙ sym e′
 
-  pub unique : (n : ℕ) (r r′ : Answer) (table table′ : List ℤ) → Says (compiled limits text n) n r table → Says (compiled limits text n) n r′ table′ → (r ≡ r′) × (table ≡ table′)
+  pub unique : (n : ℕ) (r r′ : Answer) (table table′ : List ℤ) → Compiles (compiled limits text n) n r table → Compiles (compiled limits text n) n r′ table′ → (r ≡ r′) × (table ≡ table′)
   unique n r r′ table table′ s s′ = (s .answer ∙ sym (s′ .answer), s .numbers ∙ sym (s′ .numbers))

@@ -30,7 +30,7 @@ answered (given a) = Accepted (record { instructions = length (code-of-text a); 
 answered (refused why p) = Refused why p
 
 -- the answer r, and the table of n numbers, are those of a
-pub record Says (a : A.Answer C.Accepted) (n : ℕ) (r : Answer) (table : List ℤ) : Type 0 where
+pub record Compiles (a : A.Answer C.Accepted) (n : ℕ) (r : Answer) (table : List ℤ) : Type 0 where
   pub answer : r ≡ answered a
   pub numbers : table ≡ table-after n a
 

@@ -51,7 +51,7 @@ compiled limits text n = pass (judged limits text) (at-most (n / 2))
 
 -- ---- what is reported and what the table holds
 
-pub record Report : Type 0 where
+pub record Summary : Type 0 where
   pub number : ℕ
   pub place : ℕ
   pub instructions : ℕ
@@ -59,9 +59,9 @@ pub record Report : Type 0 where
   pub need : ℕ
 
 -- accepted is number 0, with place 0; a refusal reports no counts
-unfoldable pub report : Answer Accepted → Report
-report (given a) = record { number = 0; place = 0; instructions = length (code-of-text a); cells = a .cells; need = program-need (a .cells) (a .command) }
-report (refused why p) = record { number = number why; place = p; instructions = 0; cells = 0; need = 0 }
+unfoldable pub summary : Answer Accepted → Summary
+summary (given a) = record { number = 0; place = 0; instructions = length (code-of-text a); cells = a .cells; need = program-need (a .cells) (a .command) }
+summary (refused why p) = record { number = number why; place = p; instructions = 0; cells = 0; need = 0 }
 
 -- the code's numbers, then zeros, in a table of so many numbers
 unfoldable pub filled : ℕ → List ℤ → List ℤ

@@ -9,7 +9,7 @@ ghost use mathlib.Core.Path.{_≡_};
 ghost use Prim.Native.Nat.{_≤_};
 ghost use lib.ListN.{length};
 ghost use Rattle.limits.specs.Limits.{Sizes};
-ghost use Rattle.compiler.specs.Answers.{answered, Says, Measured, settled-by, Written};
+ghost use Rattle.compiler.specs.Answers.{answered, Compiles, Measured, settled-by, Written};
 ghost use Rattle.compiler.specs.Compiled.{judged, compiled};
 ghost use Rattle.compiler.specs.Tables.{opening};
 ghost use Rattle.compiler.specs.Walks.{Set-out, Counted, Reads-program};
@@ -146,7 +146,7 @@ fn write(text: &[u8], table: &mut [i32], cells: usize)
 pub fn compile(text: &[u8], table: &mut [i32]) -> Answer
     ghost { Sizes }
     requires { λ sizes. do ⌜ record { word = (← ⟦Limits::WORD⟧); string = (← ⟦Limits::STRING⟧); literal = (← ⟦Limits::LITERAL⟧) } ≡ sizes ⌝ }
-    ensures { λ sizes r. do ⌜ Says (compiled (record { text = (← ⟦Limits::TEXT⟧ .entry); sizes = sizes; nesting = (← ⟦Limits::NESTING⟧ .entry); declarations = (← ⟦Limits::DECLARATIONS⟧ .entry); instructions = (← ⟦Limits::INSTRUCTIONS⟧ .entry) }) (now (text .entry)) (length (now (table .entry)))) (length (now (table .entry))) r (now (table .exit)) ⌝ }
+    ensures { λ sizes r. do ⌜ Compiles (compiled (record { text = (← ⟦Limits::TEXT⟧ .entry); sizes = sizes; nesting = (← ⟦Limits::NESTING⟧ .entry); declarations = (← ⟦Limits::DECLARATIONS⟧ .entry); instructions = (← ⟦Limits::INSTRUCTIONS⟧ .entry) }) (now (text .entry)) (length (now (table .entry)))) (length (now (table .entry))) r (now (table .exit)) ⌝ }
 {
     base::clear(table);
     let a = judge(text);

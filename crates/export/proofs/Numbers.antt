@@ -10,22 +10,22 @@ use Rattle.machine.specs.Promise.{Ran}
 use Rattle.machine.specs.declared.Report as Code
 use Rattle.compiler.specs.declared.Answer.{Answer}
 use Rattle.compiler.specs.declared.Answer.the-variants.{Accepted, Refused}
-use Rattle.compiler.specs.Answers.{answered, Says}
+use Rattle.compiler.specs.Answers.{answered, Compiles}
 use Rattle.compiler.specs.Compiled as C
-use Rattle.compiler.specs.Compiled.{report}
+use Rattle.compiler.specs.Compiled.{summary}
 use Rattle.export.specs.Reports.{RanInto, five, CompiledInto}
 
 -- the paper's number and values for each case of an answer
-abbrev numbered : Answer → C.Report
+abbrev numbered : Answer → C.Summary
 numbered (Accepted counts) = record { number = 0; place = 0; instructions = counts .instructions; cells = counts .cells; need = counts .need }
 numbered (Refused why p) = record { number = number why; place = p; instructions = 0; cells = 0; need = 0 }
 
-reports : (a : A.Answer C.Accepted) → numbered (answered a) ≡ report a
-unfolding answered report
+reports : (a : A.Answer C.Accepted) → numbered (answered a) ≡ summary a
+unfolding answered summary
 reports (given x) = refl
 reports (refused why p) = refl
 
-pub compiled-into : {a : A.Answer C.Accepted} {n : ℕ} {r q : Answer} {table : List ℤ} → Says a n r table → r ≡ q → CompiledInto a n (five (numbered q)) table
+pub compiled-into : {a : A.Answer C.Accepted} {n : ℕ} {r q : Answer} {table : List ℤ} → Compiles a n r table → r ≡ q → CompiledInto a n (five (numbered q)) table
 compiled-into {a} s is = rw (← is, s .answer) (record { reported = ap five (reports a); code = s .numbers })
 
 pub ran-into : {w : Report} {cells cells′ : List ℤ} {before after : List ℕ} (r : Code.Report) → Ran w cells before r cells′ after → RanInto w cells before (r .ending ∷ (r .steps ∷ (r .used ∷ (r .length ∷ [])))) cells′ after

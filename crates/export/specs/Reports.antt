@@ -7,7 +7,7 @@ use lib.ListN.{length}
 use Rattle.base.specs.Answers.{Answer}
 use Rattle.machine.specs.Machine.{Report, room-after, stack-after}
 use Rattle.compiler.specs.Compiled as C
-use Rattle.compiler.specs.Compiled.{report, table-after}
+use Rattle.compiler.specs.Compiled.{summary, table-after}
 
 -- ending, steps, readings used, output length
 abbrev pub four : Report → List ℕ
@@ -19,10 +19,10 @@ pub record RanInto (w : Report) (cells : List ℤ) (before : List ℕ) (numbers 
   pub room : after ≡ room-after (w .output) before
 
 -- number, place, instructions, cells, need
-abbrev pub five : C.Report → List ℕ
+abbrev pub five : C.Summary → List ℕ
 five w = w .number ∷ (w .place ∷ (w .instructions ∷ (w .cells ∷ (w .need ∷ []))))
 
 -- the five numbers, and the table of n numbers, are those of a
 pub record CompiledInto (a : Answer C.Accepted) (n : ℕ) (numbers : List ℕ) (table : List ℤ) : Type 0 where
-  pub reported : numbers ≡ five (report a)
+  pub reported : numbers ≡ five (summary a)
   pub code : table ≡ table-after n a

@@ -13,7 +13,7 @@ use Rattle.names.specs.Held.{opened-in}
 use Rattle.compiler.specs.Steps.{moved-to, one-instruction, Expects, before-body}
 use Rattle.compiler.specs.Walks.{First, Reads, want-nested}
 use Rattle.compiler.proofs.Bodies.{lost-ahead, crossed, ready-first, reads-begun, ready-inside, Headed, head-small, ready-headed, body-leads, Bodied, body-small, end-small, guarded-read, so-far-closed, More, more-on}
-use Rattle.compiler.proofs.Commands.{command-way, guarded-way, block-way, block-so-far, guarded-refused, no-body, block-first, block-more, Begins, begins-nested, too-deep-begun}
+use Rattle.compiler.proofs.Commands.{command-way, guarded-way, block-way, block-so-far, guarded-refused, no-body, block-first, block-more, Starts, begins-nested, too-deep-begun}
 use Rattle.compiler.proofs.Lays.{lays-single}
 use Rattle.compiler.proofs.Looked.{flag-off, flag-on}
 use Rattle.compiler.proofs.Names.{ready-opened}
@@ -170,7 +170,7 @@ command-returns-2 : (t : ℕ) → command-lts.Need-returns-2 (command-calls t) (
 command-returns-2 t c = rw (command-whole t (c .before .before .before .before .before .before .before .before .before)) at (c .before .before .before .without-body .ensures)
 
 -- a command with a body
-command-begins : (t : ℕ) (c : command-lts.Else1 (command-calls t) (command-at t) command.Post) → Begins (c .before .before .before .before .before .before .before .before .before .before .pre .1 .stands) 1 (want-nested (fixed-number (c .before .before .before .before .before .before .before .before .before .before .args .w .next .kind)))
+command-begins : (t : ℕ) (c : command-lts.Else1 (command-calls t) (command-at t) command.Post) → Starts (c .before .before .before .before .before .before .before .before .before .before .pre .1 .stands) 1 (want-nested (fixed-number (c .before .before .before .before .before .before .before .before .before .before .args .w .next .kind)))
 command-begins t c = begins-nested _ (rw (c .before .before .before .before .before .before .fixed-ahead .ensures) at (sym (c .before .has-body .ensures) ∙ flag-on _ (c .if1 .left)))
 
 command-returns-3 : (t : ℕ) → command-lts.Need-returns-3 (command-calls t) (command-at t) command.Post
