@@ -18,7 +18,7 @@ use Rattle.names.specs.Names.{Scope, Known, Naming, _>>=_, give, resolve}
 use Rattle.names.specs.Held.{room, Sound, Kept}
 use Rattle.names.proofs.Held.{kept-all, kept-then}
 use Rattle.instruction.specs.Numbers.{Two-sided}
-use Rattle.instruction.specs.Instructions.{Instruction, halt, push-int, jump, jump-if-false, two-sided, negate, not, print-int, print-str, print-str-ln, number, pair}
+use Rattle.instruction.specs.Instructions.{Instruction, halt, push-int, jump, jump-if-false, two-sided, negate, not, print-int, print-str, print-str-ln, number, pair, opcode}
 use Rattle.meaning.specs.Layout.{of-mul, of-sign, of-rel, size, code, need}
 use Rattle.compiler.specs.declared.walk.Walk.{Walk}
 use Rattle.compiler.specs.declared.walk.Gives.{Gives}
@@ -148,7 +148,7 @@ module _ {text names : List ℕ} {table : List ℤ} {w : Walk} where
 
   pub lays-quoted : (line : Bool) (q : Quoted) (m : Lexeme) → q .place ≡ w .next .place + 1 → w .next .place < m .place → Sound names →
       Lays text names table w (quoted line q) names (put table (w .code) (printing-number line ∷ pos (w .next .place + 1) ∷ [])) (moved-to (one-instruction w) m) (record { need = 0 })
-  unfolding resolve size need code pair quoted printing-number
+  unfolding resolve size need code pair opcode quoted printing-number
   lays-quoted true q m p = rw (← p) (lays-alone (print-line q) (print-line q) (print-str-ln (q .place)) 0 refl refl refl (omega arith) refl m)
   lays-quoted false q m p = rw (← p) (lays-alone (print-string q) (print-string q) (print-str (q .place)) 0 refl refl refl (omega arith) refl m)
 

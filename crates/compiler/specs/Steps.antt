@@ -1,6 +1,6 @@
 -- What the code's small steps come to: how a walk moves over lexemes, instructions and names.
 use mathlib.Core.Path.{_≡_}
-use mathlib.Core.List.{List, [], _∷_}
+use mathlib.Core.List.{List, []}
 use mathlib.Core.Bool.{Bool, true, false, cond, _||_}
 use mathlib.Core.Logic.{_⊎_}
 use Prim.Native.Nat.{ℕ, _+_, _≤_, max}
@@ -21,7 +21,7 @@ use Rattle.names.specs.declared.Cell.{Cell}
 use Rattle.names.specs.declared.Cell.the-variants.{At, Nowhere}
 use Rattle.names.specs.Held.{counts, room, visible-in, latest}
 use Rattle.instruction.specs.Numbers.{plus, minus, times, divide, equals, smaller, greater}
-use Rattle.instruction.specs.Instructions.{number}
+use Rattle.instruction.specs.Instructions.{jump, print-str, print-str-ln, number, pair, opcode}
 use Rattle.compiler.specs.declared.walk.Walk.{Walk}
 use Rattle.compiler.specs.declared.walk.Gives.{Gives}
 use Rattle.compiler.specs.declared.walk.NameFault.{NameFault}
@@ -84,8 +84,8 @@ operand-of n = cond (ltb n 2147483648) n 0
 -- ---- the operation of PRINTLNS, which prints a line, or of PRINTS
 
 unfoldable pub printing-number : Bool → ℤ
-printing-number true = pos 19
-printing-number false = pos 18
+printing-number true = pos (opcode (print-str-ln 0))
+printing-number false = pos (opcode (print-str 0))
 
 -- ---- the body of an IF or of a WHILE, which jumps back, or of a block
 
@@ -102,7 +102,7 @@ ended-walk true w = one-instruction w
 ended-walk false w = w
 
 unfoldable pub ended-table : Bool → List ℤ → ℕ → ℕ → List ℤ
-ended-table true table n back = put table n (pos 5 ∷ pos back ∷ [])
+ended-table true table n back = put table n (pair (jump back) [])
 ended-table false table n back = table
 
 -- the operation of a symbol's byte

@@ -48,7 +48,7 @@ module _ {a : A.Answer Accepted} {n : ℕ} {k : Counts} {table : List ℤ} (t : 
   needs : {readings : List ℤ} {budget : ℕ} {stack : List ℤ} {out : List ℕ} → length stack < k .need → Says readings budget stack out a n (outcome.Needs (k .need)) table stack out
   needs h = rw (t .is, ← t .need) (record { comes = stack-too-short (t .text) (omega (arith, t .need)); numbers = t .after })
 
-module _ (limits : Limits) (text : List ℕ) (n : ℕ) {r : Answer} {table : List ℤ} (s : C.Says (compiled limits text n) n r table) where
+module _ (limits : Limits) (text : List ℕ) (n : ℕ) {r : Answer} {table : List ℤ} (s : C.Compiles (compiled limits text n) n r table) where
   pub took : {k : Counts} → r ≡ answer.Accepted k → Took (compiled limits text n) n k table
   unfolding answered need-of
   took {k} is = by (compiled limits text n) (sym is ∙ s .answer) (s .numbers)
