@@ -27,7 +27,7 @@ use Rattle.compiler.specs.declared.walk.Gives.{Gives}
 use Rattle.compiler.specs.declared.walk.Read.{Read}
 use Rattle.compiler.specs.declared.walk.Read.the-variants.{Done, Refused}
 use Rattle.compiler.specs.Steps.{moved-to, one-instruction, Follows, Past, Advances, Expects, printing-number, cell-of, noted-walk, cell-number, declared-walk, before-body, ended-walk, ended-table}
-use Rattle.compiler.specs.Tables.{put}
+use Rattle.tables.specs.Tables.{put}
 use Rattle.compiler.specs.Walks.{name-of, Lays, Ready, First, Reads, Reads-command, Reads-block, Reads-string, Reads-declare, Reads-read, Reads-assign}
 use Rattle.compiler.proofs.Commands.{command-way, string-way, declare-way, read-way, assign-way, guarded-way, block-way, block-so-far, quoted-printed, name-declared, name-read, assign-leads, no-becomes, guarded-leads, block-first, block-more, block-closed, block-lost, error-read, Starts, begun-leads}
 use Rattle.compiler.proofs.Lays.{quoted, guarded, lead, lays-error, lays-quoted, lays-guarded, lays-single, lays-then, ready-body}

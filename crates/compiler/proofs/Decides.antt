@@ -30,21 +30,23 @@ use Rattle.meaning.specs.Layout.{size, need, code, program-code, program-need}
 use Rattle.meaning.proofs.Laid.{laid-program}
 use Rattle.compiler.specs.declared.walk.Walk.{Walk}
 use Rattle.compiler.specs.declared.walk.Gives.{Gives}
-use Rattle.compiler.specs.declared.walk.NameFault.{NameFault}
-use Rattle.compiler.specs.declared.walk.NameFault.the-variants as fault
+use Rattle.tables.specs.declared.NameFault.{NameFault}
+use Rattle.tables.specs.declared.NameFault.the-variants as fault
 use Rattle.compiler.specs.declared.walk.Read.{Read}
 use Rattle.compiler.specs.declared.walk.Read.the-variants as read
-use Rattle.compiler.specs.declared.Counts.{Counts}
-use Rattle.compiler.specs.declared.Answer.{Answer}
-use Rattle.compiler.specs.declared.Answer.the-variants.{Accepted, Refused}
-use Rattle.compiler.specs.Answers.{answered, Compiles, Measured, settled-by, Written}
+use Rattle.tables.specs.declared.Counts.{Counts}
+use Rattle.tables.specs.declared.Answer.{Answer}
+use Rattle.tables.specs.declared.Answer.the-variants.{Accepted, Refused}
+use Rattle.compiler.specs.Answers.{answered, Compiles, Measured, Written}
 use Rattle.compiler.specs.Compiled as C
-use Rattle.compiler.specs.Compiled.{short-enough, code-of-text, at-most, measured, judged, compiled, filled, table-after}
+use Rattle.compiler.specs.Compiled.{short-enough, code-of-text, at-most, measured, judged, compiled, table-after}
 use Rattle.compiler.specs.Steps.{start-at}
-use Rattle.compiler.specs.Tables.{put, emit, opening}
+use Rattle.tables.specs.Settled.{settled-by}
+use Rattle.tables.specs.Tables.{put, emit, opening, filled}
 use Rattle.compiler.specs.Walks.{standing, stand, named, scope-of, Laid, spare, Lays, Set-out, Counted, From-start, Reads-program}
-use Rattle.compiler.proofs.Emits.{emit-append, emit-code, emit-one}
-use Rattle.compiler.proofs.Filled.{filled-by-code}
+use Rattle.tables.proofs.Emits.{emit-append, emit-one}
+use Rattle.compiler.proofs.Emits.{emit-code}
+use Rattle.tables.proofs.Filled.{filled-by-code}
 use Rattle.compiler.proofs.Lays.{never}
 
 -- ---- the Program
@@ -122,7 +124,7 @@ module _ {limit : ℕ} {text names names′ : List ℕ} {table table′ : List �
 -- ---- the table
 
 -- the cells, the Command and the end, as the code writes them
-whole-written : (table : List ℤ) (cells : ℕ) (y : Sen ℕ command) → put (emit (opening cells table) cells (code cells y)) (cells + size y) (pos 1 ∷ pos 0 ∷ []) ≡ emit table 0 (program-code cells y)
+whole-written : (table : List ℤ) (cells : ℕ) (y : Sen ℕ command) → put (emit (opening cells table) cells (code cells y)) (cells + size y) (pair (halt 0) []) ≡ emit table 0 (program-code cells y)
 unfolding program-code opening pair
 whole-written table cells y =
     let o = replicate cells (push-int (pos 0)) in
@@ -133,7 +135,7 @@ module _ (limit : ℕ) (text names : List ℕ) (table : List ℤ) (cells : ℕ) 
   unfolding Written
   not-written is sizes ls m k small lx rd rs c = never (sym rd ∙ not-read limit text names (opening cells table) cells o names′ table′ d is sizes ls small lx)
 
-  pub written : {v : Walk} {g : Gives} → r ≡ read.Done v g → Written limit (room names) text cells table (put table′ (v .code) (pos 1 ∷ pos 0 ∷ []))
+  pub written : {v : Walk} {g : Gives} → r ≡ read.Done v g → Written limit (room names) text cells table (put table′ (v .code) (pair (halt 0) []))
   unfolding Written
   written is sizes ls m k small lx rd rs c =
       let q = ran limit text names (opening cells table) cells o names′ table′ d is in
@@ -145,7 +147,7 @@ module _ (limit : ℕ) (text names : List ℕ) (table : List ℤ) (cells : ℕ) 
 -- ---- what the sentences decide
 
 -- by 8, or by none: the walk's counts are those of the code
-sized : (limit cells : ℕ) (v : Walk) (g : Gives) (y : Sen ℕ command) → v .code ≡ size y → g .need ≡ need y → settled-by limit cells v g fault.Nothing ≡ answered (at-most limit (record { command = y; cells = cells }))
+sized : (limit cells : ℕ) (v : Walk) (g : Gives) (y : Sen ℕ command) → v .code ≡ size y → g .need ≡ need y → settled-by limit cells (v .code) (cells + g .need) fault.Nothing ≡ answered (at-most limit (record { command = y; cells = cells }))
 unfolding settled-by at-most code-of-text answered program-need
 sized limit cells v g y s n = rw long (by (ltb limit m))
   where
@@ -166,14 +168,14 @@ module _ (nesting instructions : ℕ) (text names : List ℕ) (none : List ℤ) 
   by-reading is sizes ls small lx = rw (not-read nesting text names none 0 o names′ none′ d is sizes ls small lx)
 
   -- by 6 or 7, by 8, or by none of them
-  pub by-naming : {v : Walk} {g : Gives} → r ≡ read.Done v g → (a : Answer) → a ≡ settled-by instructions (counts names′ .cells) v g (v .fault) → Measured nesting (room names) instructions text a
+  pub by-naming : {v : Walk} {g : Gives} → r ≡ read.Done v g → (a : Answer) → a ≡ settled-by instructions (counts names′ .cells) (v .code) (counts names′ .cells + g .need) (v .fault) → Measured nesting (room names) instructions text a
   unfolding Measured measured pass
   by-naming {v} {g} is a e sizes ls small lx = rw (it .reads sizes ls small lx) (e ∙ by (v .fault) refl)
     where
       it : Ran nesting text names none 0 names′ none′ v g
       it = ran nesting text names none 0 o names′ none′ d is
 
-      by : (f : NameFault) → v .fault ≡ f → settled-by instructions (counts names′ .cells) v g f ≡ answered (pass (resolved (room names) (it .tree)) λ k. at-most instructions (record { command = k .what; cells = k .scope .cells }))
+      by : (f : NameFault) → v .fault ≡ f → settled-by instructions (counts names′ .cells) (v .code) (counts names′ .cells + g .need) f ≡ answered (pass (resolved (room names) (it .tree)) λ k. at-most instructions (record { command = k .what; cells = k .scope .cells }))
       by (fault.Is why p) f = unfold settled-by answered in rw (unnamed it f)
       by fault.Nothing f = let k = settled it f in rw (k .are-known, k .cells-are) (sized instructions (counts names′ .cells) v g (k .known .what) (omega (arith, k .size-is)) (k .need-is))
 

@@ -23,9 +23,10 @@ use Rattle.meaning.specs.Layout.{of-mul, of-sign, of-rel, size, code, need}
 use Rattle.compiler.specs.declared.walk.Walk.{Walk}
 use Rattle.compiler.specs.declared.walk.Gives.{Gives}
 use Rattle.compiler.specs.Steps.{moved-to, one-instruction, printing-number, ended-walk, ended-table, operation-number}
-use Rattle.compiler.specs.Tables.{put, emit}
+use Rattle.tables.specs.Tables.{put, emit}
 use Rattle.compiler.specs.Walks.{stand, named, scope-of, Laid, spare, Small, Lays, Ready}
-use Rattle.compiler.proofs.Emits.{emit-code, emit-one, put-before, mul-operation, sign-operation, rel-operation}
+use Rattle.tables.proofs.Emits.{emit-one, put-before}
+use Rattle.compiler.proofs.Emits.{emit-code, mul-operation, sign-operation, rel-operation}
 
 -- ---- answers
 

@@ -2,7 +2,6 @@ pub mod Bodies
 pub mod Commands
 pub mod Decides
 pub mod Emits
-pub mod Filled
 pub mod Lays
 pub mod Looked
 pub mod Names

@@ -25,12 +25,12 @@ use Rattle.instruction.specs.Instructions.{Instruction, push-int, load-stack, s
 use Rattle.meaning.specs.Layout.{size, code, need}
 use Rattle.compiler.specs.declared.walk.Walk.{Walk}
 use Rattle.compiler.specs.declared.walk.Gives.{Gives}
-use Rattle.compiler.specs.declared.walk.NameFault.{NameFault}
-use Rattle.compiler.specs.declared.walk.NameFault.the-variants.{Nothing, Is}
+use Rattle.tables.specs.declared.NameFault.{NameFault}
+use Rattle.tables.specs.declared.NameFault.the-variants.{Nothing, Is}
 use Rattle.compiler.specs.Steps.{moved-to, one-instruction, first-fault, faulted-walk, operand-of, cell-of, noted-walk, cell-number, declared-walk}
-use Rattle.compiler.specs.Tables.{put, emit}
+use Rattle.tables.specs.Tables.{put, emit}
 use Rattle.compiler.specs.Walks.{standing, stand, Laid, spare, Lays, Ready, name-of}
-use Rattle.compiler.proofs.Emits.{emit-one}
+use Rattle.tables.proofs.Emits.{emit-one}
 use Rattle.compiler.proofs.Lays.{Agrees, gives, refuses, never, agrees-one, agrees-two, agrees, lays, laid-more}
 
 -- ---- a use

@@ -19,9 +19,9 @@ use Rattle.compiler.specs.declared.walk.Gives.{Gives}
 use Rattle.compiler.specs.declared.walk.Read.{Read}
 use Rattle.compiler.specs.declared.walk.Read.the-variants.{Done, Refused}
 use Rattle.compiler.specs.Steps.{moved-to, one-instruction, joined-walk, operation-number, Follows, Past, Advances, Expects}
-use Rattle.compiler.specs.Tables.{put}
+use Rattle.tables.specs.Tables.{put}
 use Rattle.compiler.specs.Walks.{Lays, Ready, Reads}
-use Rattle.compiler.proofs.Emits.{length-put}
+use Rattle.tables.proofs.Emits.{length-put}
 use Rattle.compiler.proofs.Looked.{Sort, signs, muls, rels, Is-one, is-one}
 use Rattle.compiler.proofs.Reading.{Way, Passed, Barred, Leads}
 use Rattle.compiler.proofs.Passes.{factor-way, term-so-far, term-way, first-term-way, expression-way, comparison-way, term-more, term-lost, expression-more, expression-lost, compare-leads, compare-lost}

@@ -4,7 +4,7 @@ use mathlib.Core.List.{List}
 use Prim.Native.Nat.{ℕ}
 use lib.IntN.{ℤ}
 use Rattle.limits.specs.Limits.{Limits}
-use Rattle.compiler.specs.declared.Answer.{Answer}
+use Rattle.tables.specs.declared.Answer.{Answer}
 use Rattle.compiler.specs.Answers.{answered, Compiles}
 use Rattle.compiler.specs.Compiled.{judged, compiled}
 

@@ -1,12 +1,9 @@
 -- What `judge` and `compile` promise: the answer as the code gives it, and what the table then holds.
 use mathlib.Core.Path.{_≡_}
 use mathlib.Core.List.{List}
-use mathlib.Core.Bool.{cond}
-use Prim.Native.Nat.{ℕ, _+_, _≤_}
-use lib.Dec.{ltb}
+use Prim.Native.Nat.{ℕ, _≤_}
 use lib.IntN.{ℤ}
 use lib.ListN.{length}
-use Rattle.base.specs.declared.Refusal.the-variants.{TooMuchCode}
 use Rattle.base.specs.Answers as A
 use Rattle.base.specs.Answers.{given, refused}
 use Rattle.lexeme.specs.Lexemes.{Name, Placed, Sizes, lexemes}
@@ -14,15 +11,11 @@ use Rattle.sentence.specs.Sentences.{Sen, command}
 use Rattle.sentence.specs.Reader.{read}
 use Rattle.names.specs.Names.{Known, resolved}
 use Rattle.meaning.specs.Layout.{program-code, program-need}
-use Rattle.compiler.specs.declared.Answer.{Answer}
-use Rattle.compiler.specs.declared.Answer.the-variants.{Accepted, Refused}
-use Rattle.compiler.specs.declared.walk.Walk.{Walk}
-use Rattle.compiler.specs.declared.walk.Gives.{Gives}
-use Rattle.compiler.specs.declared.walk.NameFault.{NameFault}
-use Rattle.compiler.specs.declared.walk.NameFault.the-variants as fault
+use Rattle.tables.specs.declared.Answer.{Answer}
+use Rattle.tables.specs.declared.Answer.the-variants.{Accepted, Refused}
 use Rattle.compiler.specs.Compiled as C
 use Rattle.compiler.specs.Compiled.{code-of-text, table-after, measured}
-use Rattle.compiler.specs.Tables.{emit}
+use Rattle.tables.specs.Tables.{emit}
 
 -- the answer as the code gives it: an accepted text's counts, or the refusal
 unfoldable pub answered : A.Answer C.Accepted → Answer
@@ -38,13 +31,6 @@ pub record Compiles (a : A.Answer C.Accepted) (n : ℕ) (r : Answer) (table : Li
 unfoldable pub Measured : ℕ → ℕ → ℕ → List ℕ → Answer → Type 0
 Measured nesting declarations instructions text r =
     (sizes : Sizes) (ls : List Placed) → sizes .literal ≤ 2147483647 → lexemes sizes text ≡ given ls → r ≡ answered (measured nesting declarations instructions ls)
-
--- what a whole Program's walk comes to: the leftmost refusal of a name, too much code, or the counts
-unfoldable pub settled-by : ℕ → ℕ → Walk → Gives → NameFault → Answer
-settled-by limit cells w g fault.Nothing =
-    cond (ltb limit (cells + w .code + 1)) (Refused TooMuchCode 0)
-    (Accepted (record { instructions = cells + w .code + 1; cells = cells; need = cells + g .need }))
-settled-by limit cells w g (fault.Is why p) = Refused why p
 
 -- the code of a text that has these cells, written over a table
 unfoldable pub Written : ℕ → ℕ → List ℕ → ℕ → List ℤ → List ℤ → Type 0

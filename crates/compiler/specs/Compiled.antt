@@ -1,10 +1,10 @@
 -- Document 01, "Refused texts": the order of refusals, and what each text leaves in the lent code table.
-use mathlib.Core.List.{List, [], _++_}
+use mathlib.Core.List.{List, []}
 use mathlib.Core.Bool.{cond}
-use Prim.Native.Nat.{ℕ, _/_, _-_}
+use Prim.Native.Nat.{ℕ, _/_}
 use lib.Dec.{ltb}
-use lib.IntN.{ℤ, pos}
-use lib.ListN.{length, replicate}
+use lib.IntN.{ℤ}
+use lib.ListN.{length}
 use Rattle.limits.specs.Limits.{Limits}
 use Rattle.base.specs.declared.Refusal.the-variants.{TooLong, TooMuchCode}
 use Rattle.base.specs.Answers.{Answer, given, refused, pass, number}
@@ -13,6 +13,7 @@ use Rattle.sentence.specs.Sentences.{Sen, command}
 use Rattle.sentence.specs.Reader.{read}
 use Rattle.names.specs.Names.{resolved}
 use Rattle.instruction.specs.Instructions.{Instruction, numbers}
+use Rattle.tables.specs.Tables.{filled}
 use Rattle.meaning.specs.Layout.{program-code, program-need}
 
 -- an accepted text: its Command over cells, and how many cells there are
@@ -62,10 +63,6 @@ pub record Summary : Type 0 where
 unfoldable pub summary : Answer Accepted → Summary
 summary (given a) = record { number = 0; place = 0; instructions = length (code-of-text a); cells = a .cells; need = program-need (a .cells) (a .command) }
 summary (refused why p) = record { number = number why; place = p; instructions = 0; cells = 0; need = 0 }
-
--- the code's numbers, then zeros, in a table of so many numbers
-unfoldable pub filled : ℕ → List ℤ → List ℤ
-filled n code = code ++ replicate (n - length code) (pos 0)
 
 -- numbers of the table past the code are 0, as is the whole table on refusal
 unfoldable pub table-after : ℕ → Answer Accepted → List ℤ

@@ -24,11 +24,11 @@ use Rattle.instruction.specs.Numbers.{plus, minus, times, divide, equals, small
 use Rattle.instruction.specs.Instructions.{jump, print-str, print-str-ln, number, pair, opcode}
 use Rattle.compiler.specs.declared.walk.Walk.{Walk}
 use Rattle.compiler.specs.declared.walk.Gives.{Gives}
-use Rattle.compiler.specs.declared.walk.NameFault.{NameFault}
-use Rattle.compiler.specs.declared.walk.NameFault.the-variants.{Nothing, Is}
+use Rattle.tables.specs.declared.NameFault.{NameFault}
+use Rattle.tables.specs.declared.NameFault.the-variants.{Nothing, Is}
 use Rattle.compiler.specs.declared.walk.Read.{Read}
 use Rattle.compiler.specs.declared.walk.Read.the-variants.{Done, Refused}
-use Rattle.compiler.specs.Tables.{put}
+use Rattle.tables.specs.Tables.{put}
 
 -- ---- the walk
 

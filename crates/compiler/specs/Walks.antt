@@ -22,12 +22,12 @@ use Rattle.names.specs.Held.{counts, room, scope-in, Sound, Kept}
 use Rattle.meaning.specs.Layout as layout
 use Rattle.compiler.specs.declared.walk.Walk.{Walk}
 use Rattle.compiler.specs.declared.walk.Gives.{Gives}
-use Rattle.compiler.specs.declared.walk.NameFault.{NameFault}
-use Rattle.compiler.specs.declared.walk.NameFault.the-variants.{Nothing, Is}
+use Rattle.tables.specs.declared.NameFault.{NameFault}
+use Rattle.tables.specs.declared.NameFault.the-variants.{Nothing, Is}
 use Rattle.compiler.specs.declared.walk.Read.{Read}
 use Rattle.compiler.specs.declared.walk.Read.the-variants.{Done, Refused}
 use Rattle.compiler.specs.Steps.{start-at, Past}
-use Rattle.compiler.specs.Tables.{emit}
+use Rattle.tables.specs.Tables.{emit}
 
 -- ---- reading
 

@@ -236,7 +236,7 @@ fn guarded(
         return t;
     };
     let end = ended(table, y, again, w.code);
-    walk::put(table, c.code, operations::JUMP_IF_FALSE, end.code as i32);
+    tables::put(table, c.code, operations::JUMP_IF_FALSE, end.code as i32);
     Read::Done(
         end,
         Gives {

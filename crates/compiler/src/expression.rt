@@ -6,7 +6,7 @@ ghost use lib.IntN.{pos};
 ghost use Rattle.lexeme.specs.Lexemes.{open-round};
 ghost use Rattle.lexeme.specs.Coded.{code-of, fixed-number};
 ghost use Rattle.compiler.specs.Steps.{joined-walk, operation-number};
-ghost use Rattle.compiler.specs.Tables.{put};
+ghost use Rattle.tables.specs.Tables.{put};
 ghost use Rattle.compiler.specs.Walks.{Ready, Reads-factor, Reads-term, Reads-first-term, Reads-expression, Reads-condition, Reads-comparison};
 use crate::naming;
 use crate::operator;

@@ -9,33 +9,15 @@ ghost use mathlib.Core.Path.{_≡_};
 ghost use Prim.Native.Nat.{_≤_};
 ghost use lib.ListN.{length};
 ghost use Rattle.limits.specs.Limits.{Sizes};
-ghost use Rattle.compiler.specs.Answers.{answered, Compiles, Measured, settled-by, Written};
+ghost use Rattle.compiler.specs.Answers.{answered, Compiles, Measured, Written};
 ghost use Rattle.compiler.specs.Compiled.{judged, compiled};
-ghost use Rattle.compiler.specs.Tables.{opening};
-ghost use Rattle.compiler.specs.Walks.{Set-out, Counted, Reads-program};
+ghost use Rattle.compiler.specs.Walks.{Set-out, Reads-program};
 use base::Refusal;
-use instruction::operations;
 use lexeme::Found;
 use lexeme::fixed;
 use limits::Limits;
-use walk::Gives;
-use walk::NameFault;
+use tables::Answer;
 use walk::Read;
-use walk::Walk;
-
-// What is reported of an accepted text.
-pub struct Counts {
-    pub instructions: usize,
-    pub cells: usize,
-    // Its stack need.
-    pub need: usize,
-}
-
-pub enum Answer {
-    Accepted(Counts),
-    // Why, and the place.
-    Refused(Refusal, usize),
-}
 
 // DO, one Command, the end; the Command's code begins at a place.
 fn program(text: &[u8], names: &mut [usize], table: &mut [i32], code: usize) -> Read
@@ -64,26 +46,6 @@ fn program(text: &[u8], names: &mut [usize], table: &mut [i32], code: usize) -> 
 // Numbers that a text's scope takes.
 const NAMES: usize = names::COUNTS + Limits::DECLARATIONS * names::ENTRY;
 
-// What a whole Program comes to: a name's refusal, too much code, or its counts.
-fn settled(cells: usize, w: Walk, g: Gives) -> Answer
-    requires { ⌜ Counted cells w g ⌝ }
-    ensures { λ r. do ⌜ r ≡ settled-by (← ⟦Limits::INSTRUCTIONS⟧ .entry) cells w g (w .fault) ⌝ }
-{
-    let fault = w.fault;
-    if let NameFault::Is(why, place) = fault {
-        return Answer::Refused(why, place);
-    }
-    let size = cells + w.code + 1;
-    if Limits::INSTRUCTIONS < size {
-        return Answer::Refused(Refusal::TooMuchCode, 0);
-    }
-    Answer::Accepted(Counts {
-        instructions: size,
-        cells: cells,
-        need: cells + g.need,
-    })
-}
-
 // What the sentences decide. Nothing is written: the table holds no pair.
 fn measured(text: &[u8]) -> Answer
     requires { do ⌜ length (now text) ≤ (← ⟦Limits::TEXT⟧) ⌝ }
@@ -96,7 +58,8 @@ fn measured(text: &[u8]) -> Answer
         Read::Refused(why, place) => Answer::Refused(why, place),
         Read::Done(w, g) => {
             let s = names::counts(&names);
-            settled(s.cells, w, g)
+            let fault = w.fault;
+            tables::settled(s.cells, w.code, s.cells + g.need, fault)
         }
     }
 }
@@ -117,29 +80,18 @@ pub fn judge(text: &[u8]) -> Answer
     }
 }
 
-// One `PushInt 0` for each cell.
-fn put_cells(table: &mut [i32], cells: usize)
-    ensures { λ _. ⌜ now (table .exit) ≡ opening cells (now (table .entry)) ⌝ }
-{
-    let mut i = 0;
-    while i < cells {
-        walk::put(table, i, operations::PUSH_INT, 0);
-        i += 1;
-    }
-}
-
 // The code of a text that has so many cells.
 fn write(text: &[u8], table: &mut [i32], cells: usize)
     requires { do ⌜ (length (now text) ≤ (← ⟦Limits::TEXT⟧)) × (cells ≤ (← ⟦Limits::INSTRUCTIONS⟧)) ⌝ }
     ensures { λ _. do ⌜ Written (← ⟦Limits::NESTING⟧ .entry) (← ⟦Limits::DECLARATIONS⟧ .entry) (now (text .entry)) cells (now (table .entry)) (now (table .exit)) ⌝ }
 {
     let mut names = [0usize; NAMES];
-    put_cells(table, cells);
+    tables::put_cells(table, cells);
     let r = program(text, &mut names, table, cells);
     let Read::Done(w, _) = r else {
         return;
     };
-    walk::put(table, w.code, operations::HALT, 0);
+    tables::put_halt(table, w.code);
 }
 
 // Judged; then the table's room; then written.

@@ -3,7 +3,7 @@ ghost use mathlib.Core.Path.{_≡_};
 ghost use mathlib.Core.List.{[], _∷_};
 ghost use Prim.Native.Nat.{_<_};
 ghost use lib.IntN.{pos};
-ghost use Rattle.compiler.specs.Tables.{put};
+ghost use Rattle.tables.specs.Tables.{put};
 ghost use Rattle.names.specs.Held.{declared-in};
 ghost use Rattle.compiler.specs.Steps.{one-instruction, cell-of, noted-walk, cell-number, declared-walk};
 use crate::walk;

@@ -5,19 +5,14 @@ ghost use Prim.Native.Nat.{_+_, _≤_, _<_, max};
 ghost use lib.IntN.{pos};
 ghost use lib.ListN.{length};
 ghost use Rattle.lexeme.specs.Coded.{fixed-number};
-ghost use Rattle.compiler.specs.Tables.{put};
+ghost use Rattle.tables.specs.Tables.{put};
 ghost use Rattle.compiler.specs.Steps.{start-at, one-instruction, moved-to, faulted-walk, passed-on, operand-of, Advances, Expects};
 use base::Refusal;
 use lexeme::Found;
 use lexeme::Kind;
 use lexeme::Lexeme;
 use lexeme::fixed;
-
-// The leftmost refusal of 6 and 7 so far.
-pub enum NameFault {
-    Nothing,
-    Is(Refusal, usize),
-}
+use tables::NameFault;
 
 // What is threaded through a reading.
 pub struct Walk {
@@ -39,17 +34,7 @@ pub enum Read {
     Refused(Refusal, usize),
 }
 
-// ---- the table
-
-// A pair of the table, if the table has that place.
-pub fn put(table: &mut [i32], n: usize, operation: i32, operand: i32)
-    ensures { λ _. ⌜ now (table .exit) ≡ put (now (table .entry)) n (operation ∷ operand ∷ []) ⌝ }
-{
-    if n < table.len() / 2 {
-        table[n * 2] = operation;
-        table[n * 2 + 1] = operand;
-    }
-}
+// ---- instructions
 
 // A number as an operand, if an operand can hold it.
 pub fn operand(n: usize) -> i32
@@ -80,7 +65,7 @@ pub fn emitted(table: &mut [i32], w: Walk, operation: i32, operand: i32) -> Walk
     requires { ⌜ w .code < 10000000 ⌝ }
     ensures { λ r. ⌜ (r ≡ one-instruction w) × (now (table .exit) ≡ put (now (table .entry)) (w .code) (operation ∷ operand ∷ [])) ⌝ }
 {
-    put(table, w.code, operation, operand);
+    tables::put(table, w.code, operation, operand);
     skipped(w)
 }
 

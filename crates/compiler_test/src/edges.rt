@@ -1,7 +1,7 @@
 // Texts at the limits, put together from pieces.
 use crate::listings;
 use crate::say;
-use compiler::Answer;
+use tables::Answer;
 
 // The place after a piece that was put so many times.
 fn many(text: &mut [u8], at: usize, piece: &[u8], n: usize) -> usize {

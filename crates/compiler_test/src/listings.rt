@@ -1,7 +1,7 @@
 // Whole listings: the answer, then each instruction of an accepted text.
 use crate::say;
-use compiler::Answer;
 use libc::STDOUT_FILENO;
+use tables::Answer;
 
 fn is_clean(table: &[i32], from: usize) -> bool {
     for i in from..table.len() {

@@ -1,7 +1,7 @@
 // What the tests write, by the lines of the programs.
 use base::Refusal;
-use compiler::Counts;
 use libc::STDOUT_FILENO;
+use tables::Counts;
 
 fn write(page: &[u8], n: usize) {
     if n <= page.len() {

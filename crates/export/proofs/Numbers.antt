@@ -8,8 +8,8 @@ use Rattle.base.specs.Answers.{given, refused, number}
 use Rattle.machine.specs.Machine.{Report}
 use Rattle.machine.specs.Promise.{Ran}
 use Rattle.machine.specs.declared.Report as Code
-use Rattle.compiler.specs.declared.Answer.{Answer}
-use Rattle.compiler.specs.declared.Answer.the-variants.{Accepted, Refused}
+use Rattle.tables.specs.declared.Answer.{Answer}
+use Rattle.tables.specs.declared.Answer.the-variants.{Accepted, Refused}
 use Rattle.compiler.specs.Answers.{answered, Compiles}
 use Rattle.compiler.specs.Compiled as C
 use Rattle.compiler.specs.Compiled.{summary}

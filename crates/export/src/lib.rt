@@ -6,8 +6,8 @@ ghost use Rattle.machine.specs.Promise.{lends};
 ghost use Rattle.limits.specs.Limits.{Sizes};
 ghost use Rattle.compiler.specs.Compiled.{compiled};
 ghost use Rattle.export.specs.Reports.{RanInto, CompiledInto};
-use compiler::Answer;
 use limits::Limits;
+use tables::Answer;
 
 // A text compiled into the table; the report is its number, place, instructions, cells and stack need, where a refusal has only the first two.
 #[no_mangle]

@@ -14,13 +14,13 @@ use Rattle.instruction.specs.Instructions.{numbers}
 use Rattle.machine.specs.Machine.{whole-run}
 use Rattle.machine.specs.Promise.{lends, Ran}
 use Rattle.machine.specs.declared.Report as Code
-use Rattle.compiler.specs.declared.Answer.{Answer}
-use Rattle.compiler.specs.declared.Answer.the-variants as answer
-use Rattle.compiler.specs.declared.Counts.{Counts}
+use Rattle.tables.specs.declared.Answer.{Answer}
+use Rattle.tables.specs.declared.Answer.the-variants as answer
+use Rattle.tables.specs.declared.Counts.{Counts}
 use Rattle.compiler.specs.Answers as C
 use Rattle.compiler.specs.Answers.{answered}
 use Rattle.compiler.specs.Compiled.{Accepted, table-after, filled, code-of-text, compiled}
-use Rattle.compiler.proofs.Filled.{length-numbers}
+use Rattle.tables.proofs.Filled.{length-numbers}
 use Rattle.kit.specs.Kit.{worked-out, need-of, refused-so, stack-too-short, ran, Says}
 use Rattle.kit.specs.declared.Outcome.{Outcome}
 use Rattle.kit.specs.declared.Outcome.the-variants as outcome

@@ -5,9 +5,9 @@ ghost use Rattle.limits.specs.Limits.{Sizes};
 ghost use Rattle.compiler.specs.Compiled.{compiled};
 ghost use Rattle.kit.specs.Kit.{Says, sendable};
 use base::Refusal;
-use compiler::Answer;
 use limits::Limits;
 use machine::Report;
+use tables::Answer;
 
 pub enum Outcome {
     // It ran: ending, steps, readings used and output length.

@@ -6,11 +6,11 @@ use native.Mathlib.Omega.{arith}
 use lib.IntN.{ℤ}
 use lib.ListN.{length, take, length-append}
 use Rattle.limits.specs.Limits.{Limits}
-use Rattle.compiler.specs.declared.Answer.{Answer}
-use Rattle.compiler.specs.declared.Answer.the-variants as answer
+use Rattle.tables.specs.declared.Answer.{Answer}
+use Rattle.tables.specs.declared.Answer.the-variants as answer
 use Rattle.compiler.specs.Answers as C
 use Rattle.base.specs.declared.Refusal.{Refusal}
-use Rattle.compiler.specs.declared.Counts.{Counts}
+use Rattle.tables.specs.declared.Counts.{Counts}
 use Rattle.compiler.specs.Compiled.{compiled}
 use Rattle.kit.proofs.Comes.{took, own-code, refusal}
 use Rattle.lines.specs.Added.{Added}

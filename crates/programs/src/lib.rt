@@ -6,11 +6,11 @@ ghost use Rattle.limits.specs.Limits.{Sizes};
 ghost use Rattle.programs.specs.Programs.{tabled, came, listed, status-of, told, sent};
 ghost use Rattle.programs.specs.Says.{Given, Says, Comes, Tells, with-output};
 use base::Refusal;
-use compiler::Answer;
 use kit::Outcome;
 use limits::Limits;
 use limits::Station;
 use machine::Report;
+use tables::Answer;
 
 // How many bytes stand on the page for standard output and on the one for standard error, and the status.
 pub struct Said {

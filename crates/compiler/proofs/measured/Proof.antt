@@ -9,14 +9,14 @@ use Rattle.compiler.proofs.measured.Tie as tie
 program-requires : tie.Need-program-requires
 program-requires c κs = record { short = omega (arith, c .before .before .before .pre); code = omega arith; head = search needs; size = search needs; zeros = nothing-yet }
 
-settled-requires : tie.Need-settled-requires
-settled-requires c κs = rw (c .counts .ensures) (counted _ _ _ _ _ (program-requires (c .before .before .before .before .before .before .before .before) (c .before .before .before .before .before .before .before .program .lifetimes)) _ _ (c .before .before .before .before .before .before .before .program .ensures) (c .before .before .before .r2 .given .1))
+add-settled : tie.Need-add-settled
+add-settled c = rw (c .before .before .counts .ensures) (let k = counted _ _ _ _ _ (program-requires (c .before .before .before .before .before .before .before .before .before .before) (c .before .before .before .before .before .before .before .before .before .program .lifetimes)) _ _ (c .before .before .before .before .before .before .before .before .before .program .ensures) (c .before .before .before .before .before .r2 .given .1) in omega (arith, k .few, k .need))
 
 returns : tie.Need-returns
 returns c = by-reading _ _ _ _ _ (program-requires (c .before .before .before .before .before .before) (c .before .before .before .before .before .program .lifetimes)) _ _ (c .before .before .before .before .before .program .ensures) (c .before .r .given .1)
 
 returns-2 : tie.Need-returns-2
-returns-2 c = by-naming _ _ _ _ _ (program-requires (c .before .before .before .before .before .before .before .before .before) (c .before .before .before .before .before .before .before .before .program .lifetimes)) _ _ (c .before .before .before .before .before .before .before .before .program .ensures) (c .before .before .before .before .r2 .given .1) _ (rw (c .before .counts .ensures) at (c .settled .ensures))
+returns-2 c = by-naming _ _ _ _ _ (program-requires (c .before .before .before .before .before .before .before .before .before .before .before) (c .before .before .before .before .before .before .before .before .before .before .program .lifetimes)) _ _ (c .before .before .before .before .before .before .before .before .before .before .program .ensures) (c .before .before .before .before .before .before .r2 .given .1) _ (rw (c .before .before .before .counts .ensures) at (c .settled .ensures))
 
 pub measured-spec : {M : Type 1} → statement M
 measured-spec =
@@ -29,6 +29,7 @@ measured-spec =
     (λ c. search needs)
     (λ c. search needs)
     (λ c κs. search needs)
-    settled-requires
+    add-settled
+    (λ c κs. search needs)
     returns
     returns-2)

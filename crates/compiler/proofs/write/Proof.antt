@@ -13,7 +13,7 @@ returns : tie.Need-returns
 returns c = not-written _ _ _ _ _ (program-requires (c .before .before .before .before .before) (c .before .before .before .before .program .lifetimes)) _ _ (rw (c .before .before .before .before .before .before .before .before .put-cells .ensures) at (c .before .before .before .before .program .ensures)) (c .enum-told .given .1)
 
 returns-2 : tie.Need-returns-2
-returns-2 c = rw (c .before .put .ensures) (written _ _ _ _ _ (program-requires (c .before .before .before .before .before .before .before .before .before) (c .before .before .before .before .before .before .before .before .program .lifetimes)) _ _ (rw (c .before .before .before .before .before .before .before .before .before .before .before .before .put-cells .ensures) at (c .before .before .before .before .before .before .before .before .program .ensures)) (c .before .before .before .before .r .given .1))
+returns-2 c = rw (c .before .put-halt .ensures) (written _ _ _ _ _ (program-requires (c .before .before .before .before .before .before .before .before .before) (c .before .before .before .before .before .before .before .before .program .lifetimes)) _ _ (rw (c .before .before .before .before .before .before .before .before .before .before .before .before .put-cells .ensures) at (c .before .before .before .before .before .before .before .before .program .ensures)) (c .before .before .before .before .r .given .1))
 
 pub write-spec : {M : Type 1} → statement M
 write-spec =

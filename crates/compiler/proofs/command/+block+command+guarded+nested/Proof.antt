@@ -43,7 +43,7 @@ use Rattle.compiler.proofs.walk.advance.Reads as advance-reads
 use Rattle.compiler.proofs.walk.expect.Reads as expect-reads
 use Rattle.compiler.proofs.walk.fixed_ahead.Reads as fixed-ahead-reads
 use Rattle.compiler.proofs.walk.larger.Reads as larger-reads
-use Rattle.compiler.proofs.walk.put.Reads as put-reads
+use Rattle.tables.proofs.put.Reads as put-reads
 use Rattle.compiler.proofs.walk.skipped.Reads as skipped-reads
 use Rattle.names.proofs.close.Reads as close-reads
 use Rattle.names.proofs.counts.Reads as counts-reads

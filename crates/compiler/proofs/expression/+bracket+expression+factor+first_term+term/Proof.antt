@@ -25,7 +25,7 @@ use Rattle.compiler.specs.declared.walk.Gives.{Gives}
 use Rattle.compiler.specs.declared.walk.Read.{Read}
 use Rattle.compiler.specs.declared.walk.Read.the-variants.{Done, Refused}
 use Rattle.compiler.specs.Steps.{moved-to, one-instruction, joined-walk, noted-walk, cell-of, cell-number, operand-of, Past, Advances, Expects}
-use Rattle.compiler.specs.Tables.{put}
+use Rattle.tables.specs.Tables.{put}
 use Rattle.compiler.specs.Walks.{Reads, Reads-factor, Ready, Lays, name-of}
 use Rattle.compiler.proofs.Lays.{trail, lead, lays-literal, lays-bracket, lays-first, lays-unsigned, lays-signed-plus, lays-signed-minus}
 use Rattle.compiler.proofs.Names.{noted-is, lays-variable}

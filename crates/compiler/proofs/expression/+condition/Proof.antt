@@ -14,7 +14,7 @@ use Rattle.sentence.specs.Sentences.{negated}
 use Rattle.compiler.specs.declared.walk.Walk.{Walk}
 use Rattle.compiler.specs.declared.walk.Gives.{Gives}
 use Rattle.compiler.specs.Steps.{one-instruction, Past}
-use Rattle.compiler.specs.Tables.{put}
+use Rattle.tables.specs.Tables.{put}
 use Rattle.compiler.specs.Walks.{Reads, Ready, Lays}
 use Rattle.compiler.proofs.Lays.{lays-negated}
 use Rattle.compiler.proofs.Looked.{going}

@@ -1,13 +1,13 @@
--- `compiler::walk::put` meets its contract. Assumes nothing.
+-- `tables::put` meets its contract. Assumes nothing.
 use native.Mathlib.Omega.{arith}
 use native.Mathlib.Numerals.{add-one}
 use borrow.Author.Tests.{lt-ltb, le-ltb}
 use borrow.Author.Needs.{needs}
 use mir.Facts.{toZ-ofZ}
 use lib.ListN.{length-set}
-use Rattle.compiler.specs.Tables.{put}
-use Rattle.compiler.proofs.walk.put.Statement.{statement}
-use Rattle.compiler.proofs.walk.put.Tie as tie
+use Rattle.tables.specs.Tables.{put}
+use Rattle.tables.proofs.put.Statement.{statement}
+use Rattle.tables.proofs.put.Tie as tie
 
 slice-set-from-operand : tie.Need-slice-set-from-operand
 slice-set-from-operand c = rw length-set (omega arith)

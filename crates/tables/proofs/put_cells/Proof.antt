@@ -1,4 +1,4 @@
--- `compiler::put_cells` meets its contract: what is left to write makes the table what it is to be. Assumes nothing.
+-- `tables::put_cells` meets its contract: what is left to write makes the table what it is to be. Assumes nothing.
 use Prim.Native.Nat.{_-_, _≤_}
 use mathlib.Core.Path.{_≡_, refl, _∙_}
 use native.Mathlib.Nat.{sub-zero}
@@ -7,10 +7,10 @@ use borrow.Author.Needs.{needs}
 use lib.IntN.{pos}
 use lib.ListN.{length, replicate}
 use Rattle.instruction.specs.Instructions.{push-int, pair}
-use Rattle.compiler.specs.Tables.{emit, opening}
-use Rattle.compiler.proofs.Stores.{emit-on, emit-out}
-use Rattle.compiler.proofs.put_cells.Statement.{statement}
-use Rattle.compiler.proofs.put_cells.Tie as tie
+use Rattle.tables.specs.Tables.{emit, opening}
+use Rattle.tables.proofs.Stores.{emit-on, emit-out}
+use Rattle.tables.proofs.put_cells.Statement.{statement}
+use Rattle.tables.proofs.put_cells.Tie as tie
 
 abbrev Inv-loop : tie.InvT-loop
 Inv-loop table₀ cells i₀ table i = (i ≤ cells) × (length table ≡ length table₀) × (emit table i (replicate (cells - i) (push-int (pos 0))) ≡ opening cells table₀)

@@ -8,8 +8,7 @@ use lib.IntN.{ℤ, pos}
 use lib.ListN.{length, drop, replicate, length-replicate}
 use lib.Seq.{sets, sets-eq, length-sets}
 use Rattle.instruction.specs.Instructions.{Instruction, halt, push-int, load-stack, store-stack, jump, jump-if-false, two-sided, negate, not, read, print-int, print-str, print-str-ln, pair, numbers}
-use Rattle.compiler.specs.Tables.{put, emit}
-use Rattle.compiler.specs.Compiled.{filled}
+use Rattle.tables.specs.Tables.{put, emit, filled}
 
 -- an instruction is two numbers, in front of what follows
 pub is-pair : (i : Instruction) → (a b : ℤ) × ((t : List ℤ) → pair i t ≡ a ∷ b ∷ t)
