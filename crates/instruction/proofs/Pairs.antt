@@ -32,44 +32,48 @@ unfoldable pub All-sound : List Instruction → Type 0
 All-sound [] = Unit {0}
 All-sound (i ∷ is) = Sound i × All-sound is
 
--- the two numbers of an instruction, and that they decode to it
+-- the two numbers of an instruction, and that a sound one's decode to it
 unfoldable pub Written : Instruction → Type 0
-Written i = (x y : ℤ) × ((t : List ℤ) → pair i t ≡ x ∷ y ∷ t) × (decode x y ≡ some i)
+Written i = (x y : ℤ) × ((t : List ℤ) → pair i t ≡ x ∷ y ∷ t) × (Sound i → decode x y ≡ some i)
 
 -- an instruction's pair is decoded to that instruction
-pub written : (i : Instruction) → Sound i → Written i
+pub written : (i : Instruction) → Written i
 unfolding Written Sound decode operation opcode pair number alone natural halting is-false
-written (halt h) s = (pos 1, pos h, λ t. refl, rw (lt-ltb h 2 s))
-written (push-int v) s = (pos 2, v, λ t. refl, refl)
-written (load-stack k) s = (pos 3, pos k, λ t. refl, refl)
-written (store-stack k) s = (pos 4, pos k, λ t. refl, refl)
-written (jump a) s = (pos 5, pos a, λ t. refl, refl)
-written (jump-if-false a) s = (pos 6, pos a, λ t. refl, refl)
-written (two-sided plus) s = (pos 7, pos 0, λ t. refl, refl)
-written (two-sided minus) s = (pos 8, pos 0, λ t. refl, refl)
-written (two-sided times) s = (pos 9, pos 0, λ t. refl, refl)
-written (two-sided divide) s = (pos 10, pos 0, λ t. refl, refl)
-written (two-sided equals) s = (pos 11, pos 0, λ t. refl, refl)
-written (two-sided smaller) s = (pos 12, pos 0, λ t. refl, refl)
-written (two-sided greater) s = (pos 13, pos 0, λ t. refl, refl)
-written negate s = (pos 14, pos 0, λ t. refl, refl)
-written not s = (pos 15, pos 0, λ t. refl, refl)
-written read s = (pos 16, pos 0, λ t. refl, refl)
-written print-int s = (pos 17, pos 0, λ t. refl, refl)
-written (print-str q) s = (pos 18, pos q, λ t. refl, refl)
-written (print-str-ln q) s = (pos 19, pos q, λ t. refl, refl)
+written (halt h) = (_, _, λ t. refl, λ s. rw (lt-ltb h 2 s))
+written (push-int v) = (_, _, λ t. refl, λ s. refl)
+written (load-stack k) = (_, _, λ t. refl, λ s. refl)
+written (store-stack k) = (_, _, λ t. refl, λ s. refl)
+written (jump a) = (_, _, λ t. refl, λ s. refl)
+written (jump-if-false a) = (_, _, λ t. refl, λ s. refl)
+written (two-sided plus) = (_, _, λ t. refl, λ s. refl)
+written (two-sided minus) = (_, _, λ t. refl, λ s. refl)
+written (two-sided times) = (_, _, λ t. refl, λ s. refl)
+written (two-sided divide) = (_, _, λ t. refl, λ s. refl)
+written (two-sided equals) = (_, _, λ t. refl, λ s. refl)
+written (two-sided smaller) = (_, _, λ t. refl, λ s. refl)
+written (two-sided greater) = (_, _, λ t. refl, λ s. refl)
+written negate = (_, _, λ t. refl, λ s. refl)
+written not = (_, _, λ t. refl, λ s. refl)
+written read = (_, _, λ t. refl, λ s. refl)
+written print-int = (_, _, λ t. refl, λ s. refl)
+written (print-str q) = (_, _, λ t. refl, λ s. refl)
+written (print-str-ln q) = (_, _, λ t. refl, λ s. refl)
 
-pub length-numbers : (is : List Instruction) → All-sound is → length (numbers is) ≡ 2 * length is
-unfolding numbers All-sound Written
-length-numbers [] s = refl
-length-numbers (i ∷ is) s = let w = written i (s .0) in rw (w .2 (numbers is)) (omega (arith, length-numbers is (s .1)))
+pub length-pair : (i : Instruction) (t : List ℤ) → length (pair i t) ≡ 2 + length t
+unfolding Written
+length-pair i t = rw (written i .2 t) (omega arith)
+
+pub length-numbers : (is : List Instruction) → length (numbers is) ≡ 2 * length is
+unfolding numbers
+length-numbers [] = refl
+length-numbers (i ∷ is) = rw (length-pair i (numbers is)) (omega (arith, length-numbers is))
 
 -- past the end both numbers are read as 0, which is no operation
 pub decoded-at : (is : List Instruction) → All-sound is → (a : ℕ) → decode (getD (numbers is) (a * 2) (pos 0)) (getD (numbers is) (a * 2 + 1) (pos 0)) ≡ getElem? is a
 unfolding numbers All-sound Written
 decoded-at [] s a = unfold decode operation opcode pair number in refl
-decoded-at (i ∷ is) s zero = let w = written i (s .0) in rw (w .2 (numbers is)) (w .3)
-decoded-at (i ∷ is) s (suc a) = let w = written i (s .0) in rw (w .2 (numbers is), twice, twice-and-one) (decoded-at is (s .1) a)
+decoded-at (i ∷ is) s zero = let w = written i in rw (w .2 (numbers is)) (w .3 (s .0))
+decoded-at (i ∷ is) s (suc a) = let w = written i in rw (w .2 (numbers is), twice, twice-and-one) (decoded-at is (s .1) a)
   where
     twice : suc a * 2 ≡ suc (suc (a * 2))
     twice = omega arith
@@ -118,23 +122,23 @@ pub encoded : (x y : ℤ) (i : Instruction) → decode x y ≡ some i → (t : L
 unfolding decode operation opcode pair number
 encoded (negsuc n) y i = λ e. absurd (nothing i e)
 encoded (pos n) y i =
-    on n 1 _ _ i (λ q h. rw q (halting-back y i h))
-    (on n 2 _ _ i (λ q h. rw q (push-back y i h))
-    (on n 3 _ _ i (λ q h. rw q (natural-back load-stack 3 (λ m t. refl) y i h))
-    (on n 4 _ _ i (λ q h. rw q (natural-back store-stack 4 (λ m t. refl) y i h))
-    (on n 5 _ _ i (λ q h. rw q (natural-back jump 5 (λ m t. refl) y i h))
-    (on n 6 _ _ i (λ q h. rw q (natural-back jump-if-false 6 (λ m t. refl) y i h))
-    (on n 7 _ _ i (λ q h. rw q (alone-back (two-sided plus) 7 (λ t. refl) y i h))
-    (on n 8 _ _ i (λ q h. rw q (alone-back (two-sided minus) 8 (λ t. refl) y i h))
-    (on n 9 _ _ i (λ q h. rw q (alone-back (two-sided times) 9 (λ t. refl) y i h))
-    (on n 10 _ _ i (λ q h. rw q (alone-back (two-sided divide) 10 (λ t. refl) y i h))
-    (on n 11 _ _ i (λ q h. rw q (alone-back (two-sided equals) 11 (λ t. refl) y i h))
-    (on n 12 _ _ i (λ q h. rw q (alone-back (two-sided smaller) 12 (λ t. refl) y i h))
-    (on n 13 _ _ i (λ q h. rw q (alone-back (two-sided greater) 13 (λ t. refl) y i h))
-    (on n 14 _ _ i (λ q h. rw q (alone-back negate 14 (λ t. refl) y i h))
-    (on n 15 _ _ i (λ q h. rw q (alone-back not 15 (λ t. refl) y i h))
-    (on n 16 _ _ i (λ q h. rw q (alone-back read 16 (λ t. refl) y i h))
-    (on n 17 _ _ i (λ q h. rw q (alone-back print-int 17 (λ t. refl) y i h))
-    (on n 18 _ _ i (λ q h. rw q (natural-back print-str 18 (λ m t. refl) y i h))
-    (on n 19 _ _ i (λ q h. rw q (natural-back print-str-ln 19 (λ m t. refl) y i h))
+    on n _ _ _ i (λ q h. rw q (halting-back y i h))
+    (on n _ _ _ i (λ q h. rw q (push-back y i h))
+    (on n _ _ _ i (λ q h. rw q (natural-back load-stack _ (λ m t. refl) y i h))
+    (on n _ _ _ i (λ q h. rw q (natural-back store-stack _ (λ m t. refl) y i h))
+    (on n _ _ _ i (λ q h. rw q (natural-back jump _ (λ m t. refl) y i h))
+    (on n _ _ _ i (λ q h. rw q (natural-back jump-if-false _ (λ m t. refl) y i h))
+    (on n _ _ _ i (λ q h. rw q (alone-back (two-sided plus) _ (λ t. refl) y i h))
+    (on n _ _ _ i (λ q h. rw q (alone-back (two-sided minus) _ (λ t. refl) y i h))
+    (on n _ _ _ i (λ q h. rw q (alone-back (two-sided times) _ (λ t. refl) y i h))
+    (on n _ _ _ i (λ q h. rw q (alone-back (two-sided divide) _ (λ t. refl) y i h))
+    (on n _ _ _ i (λ q h. rw q (alone-back (two-sided equals) _ (λ t. refl) y i h))
+    (on n _ _ _ i (λ q h. rw q (alone-back (two-sided smaller) _ (λ t. refl) y i h))
+    (on n _ _ _ i (λ q h. rw q (alone-back (two-sided greater) _ (λ t. refl) y i h))
+    (on n _ _ _ i (λ q h. rw q (alone-back negate _ (λ t. refl) y i h))
+    (on n _ _ _ i (λ q h. rw q (alone-back not _ (λ t. refl) y i h))
+    (on n _ _ _ i (λ q h. rw q (alone-back read _ (λ t. refl) y i h))
+    (on n _ _ _ i (λ q h. rw q (alone-back print-int _ (λ t. refl) y i h))
+    (on n _ _ _ i (λ q h. rw q (natural-back print-str _ (λ m t. refl) y i h))
+    (on n _ _ _ i (λ q h. rw q (natural-back print-str-ln _ (λ m t. refl) y i h))
     (λ e. absurd (nothing i e))))))))))))))))))))

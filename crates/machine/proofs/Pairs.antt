@@ -20,12 +20,12 @@ outside (i ∷ is) (suc a) h = outside is a (omega arith)
 module _ (is : List Instruction) (sound : All-sound is) where
   -- the length is even, so that the table is run
   pub even : eqb (length (numbers is) % 2) 0 ≡ true
-  even = eq-eqb (length (numbers is) % 2) 0 (omega (arith, length-numbers is sound))
+  even = eq-eqb (length (numbers is) % 2) 0 (omega (arith, length-numbers is))
 
   module _ (lent : Lent) (holds : lent .table ≡ numbers is) where
     pub pairs-are : pairs lent ≡ length is
     unfolding pairs
-    pairs-are = rw holds (omega (arith, length-numbers is sound))
+    pairs-are = rw holds (omega (arith, length-numbers is))
 
     pub fetched-is : (a : ℕ) → fetched lent a ≡ getElem? is a
     unfolding fetched
