@@ -10,7 +10,7 @@ use Rattle.base.specs.declared.Refusal.{Refusal}
 use Rattle.base.specs.declared.Refusal.the-variants.{TooLong, NoLexeme, TooLarge, NoProgram, TooDeep, Undeclared, TooManyDeclared, TooMuchCode}
 use Rattle.lines.specs.Lines.{counted}
 use Rattle.lines.proofs.Short.{Small, short-natural}
-use Rattle.words.specs.Words.{no-lexeme, too-large, cannot-stand, too-long, too-deep, undeclared, too-many-declared, too-much-code, why, how-from-6, how-from-4, how-from-2, how}
+use Rattle.words.specs.Words.{no-lexeme, lexeme-too-large, cannot-stand, too-long, too-deep, undeclared, too-many-declared, too-much-code, why, how-from-6, how-from-4, how-from-2, how}
 use Rattle.words.specs.declared.Numbers.{Numbers}
 
 Brief : List ℕ → Type 0
@@ -42,8 +42,8 @@ short-cannot-stand true = omega arith
 short-cannot-stand false = omega arith
 
 module _ (n : Numbers) (fit : Fit n) where
-  short-too-large : (b : ℕ) → Brief (too-large n b)
-  unfolding too-large counted bytes bytes-from Brief
+  short-too-large : (b : ℕ) → Brief (lexeme-too-large n b)
+  unfolding lexeme-too-large counted bytes bytes-from Brief
   short-too-large b =
       either (eqb b 34) _ _ (simp length-append (omega (arith, short-natural (n .string) (fit .string))))
       (either (digit b) _ _ (simp length-append (omega (arith, short-natural (n .literal) (fit .literal))))

@@ -23,8 +23,8 @@ no-lexeme b =
     (bytes "O does not use this character."))))
 
 -- too large: likewise
-unfoldable pub too-large : Numbers → ℕ → List ℕ
-too-large n b =
+unfoldable pub lexeme-too-large : Numbers → ℕ → List ℕ
+lexeme-too-large n b =
     cond (eqb b (code "\"")) (counted "This string has more than " (n .string) ++ bytes " bytes between its quotes. Print it in parts.")
     (cond (digit b) (counted "This number is larger than " (n .literal) ++ bytes ", the largest there is.")
     (counted "This word has more than " (n .word) ++ bytes " letters. Choose a shorter one."))
@@ -53,7 +53,7 @@ too-much-code most = counted "The program is too long: its code may have " most 
 unfoldable pub why : Numbers → List ℕ → Refusal → ℕ → List ℕ
 why n text TooLong place = too-long (n .text)
 why n text NoLexeme place = no-lexeme (getD text place 0)
-why n text TooLarge place = too-large n (getD text place 0)
+why n text TooLarge place = lexeme-too-large n (getD text place 0)
 why n text NoProgram place = cannot-stand (leb (length text) place)
 why n text TooDeep place = too-deep (n .nesting)
 why n text Undeclared place = undeclared

@@ -5,7 +5,7 @@ ghost use lib.IntN.{pos};
 ghost use lib.ListN.{getD};
 ghost use Rattle.instruction.specs.Numbers.{decimal};
 ghost use Rattle.lines.specs.Added.{Added};
-ghost use Rattle.words.specs.Words.{no-lexeme, too-large, cannot-stand, too-long, too-deep, undeclared, too-many-declared, too-much-code, why, how-from-6, how-from-4, how-from-2, how};
+ghost use Rattle.words.specs.Words.{no-lexeme, lexeme-too-large, cannot-stand, too-long, too-deep, undeclared, too-many-declared, too-much-code, why, how-from-6, how-from-4, how-from-2, how};
 use base::Refusal;
 use base::Such;
 use limits::Limits;
@@ -82,7 +82,7 @@ fn put_no_lexeme(page: &mut [u8], at: usize, b: u8) -> usize
 }
 
 fn put_too_large(page: &mut [u8], at: usize, n: Numbers, b: u8) -> usize
-    ensures { λ r. ⌜ Added (too-large n b) (now (page .entry)) at (now (page .exit)) r ⌝ }
+    ensures { λ r. ⌜ Added (lexeme-too-large n b) (now (page .entry)) at (now (page .exit)) r ⌝ }
 {
     if b == b'"' {
         return around(
