@@ -12,33 +12,33 @@ use Rattle.meaning.specs.Layout.{program-need}
 use Rattle.compiler.specs.Compiled.{Accepted, compiled, code-of-text}
 
 -- what a text and its run come to: a refusal and its place; or the code's numbers, the stack need, the ending, the steps and the output
-pub data Comes-to : Type 0 where
-  refusal : ℕ → ℕ → Comes-to
-  runs : List ℤ → ℕ → ℕ → ℕ → List ℕ → Comes-to
+pub data Yield : Type 0 where
+  refusal : ℕ → ℕ → Yield
+  runs : List ℤ → ℕ → ℕ → ℕ → List ℕ → Yield
 
 pub record Example : Type 0 where
   pub text : List ℕ
   pub readings : List ℤ
   pub budget : ℕ
-  pub comes-to : Comes-to
+  pub comes-to : Yield
 
 -- the run of a text's own code, on a stack of the reported need, with an output room of 4,096
-unfoldable pub ran : List ℕ → List ℤ → ℕ → Accepted → Comes-to
+unfoldable pub ran : List ℕ → List ℤ → ℕ → Accepted → Yield
 ran text readings budget a =
-    let code = numbers (code-of-text a) in
+    let table = numbers (code-of-text a) in
     let need = program-need (a .cells) (a .command) in
-    let r = whole-run (record { text = text; table = code; readings = readings; cells = need; room = 4096 }) budget in
-    runs code need (r .ending) (r .steps) (r .output)
+    let r = whole-run (record { text = text; table = table; readings = readings; cells = need; room = 4096 }) budget in
+    runs table need (r .ending) (r .steps) (r .output)
 
-unfoldable pub weighed : List ℕ → List ℤ → ℕ → Answer Accepted → Comes-to
+unfoldable pub weighed : List ℕ → List ℤ → ℕ → Answer Accepted → Yield
 weighed text readings budget (given a) = ran text readings budget a
 weighed text readings budget (refused why p) = refusal (number why) p
 
 -- what the definitions yield, with a code table of 8,192 numbers
-unfoldable pub yields : Limits → Example → Comes-to
+unfoldable pub yields : Limits → Example → Yield
 yields lim e = weighed (e .text) (e .readings) (e .budget) (compiled lim (e .text) 8192)
 
-abbrev pub expected : Example → Comes-to
+abbrev pub expected : Example → Yield
 expected e = e .comes-to
 
 -- ---- the table
@@ -48,9 +48,9 @@ abbrev pub refuses : String → ℕ → ℕ → Example
 refuses text n p = record { text = bytes text; readings = []; budget = 1000000; comes-to = refusal n p }
 
 -- operations and operands as numbers of a code table
-abbrev pub code : List (ℕ × ℕ) → List ℤ
-code [] = []
-code (i ∷ is) = pos (i .0) ∷ pos (i .1) ∷ code is
+abbrev pub as-numbers : List (ℕ × ℕ) → List ℤ
+as-numbers [] = []
+as-numbers (i ∷ is) = pos (i .0) ∷ pos (i .1) ∷ as-numbers is
 
 abbrev pub with-reading : ℕ → List ℤ
 with-reading r = pos r ∷ []
@@ -60,7 +60,7 @@ abbrev pub switch : String
 switch = "DO { INT t READ t IF t = 1 THEN ERROR PRINTI 7 }"
 
 abbrev pub switch-code : List ℤ
-switch-code = code ((2, 0) ∷ (2, 0) ∷ (4, 0) ∷ (16, 0) ∷ (4, 0) ∷ (3, 0) ∷ (2, 1) ∷ (11, 0) ∷ (6, 10) ∷ (1, 1) ∷ (2, 7) ∷ (17, 0) ∷ (1, 0) ∷ [])
+switch-code = as-numbers ((2, 0) ∷ (2, 0) ∷ (4, 0) ∷ (16, 0) ∷ (4, 0) ∷ (3, 0) ∷ (2, 1) ∷ (11, 0) ∷ (6, 10) ∷ (1, 1) ∷ (2, 7) ∷ (17, 0) ∷ (1, 0) ∷ [])
 
 abbrev pub countdown : String
 countdown = "DO { INT n READ n WHILE n > 0 DO n := n - 1 PRINTI n }"
@@ -68,7 +68,7 @@ countdown = "DO { INT n READ n WHILE n > 0 DO n := n - 1 PRINTI n }"
 -- JumpIfFalse 14 at place 8
 abbrev pub countdown-code : List ℤ
 countdown-code =
-    code
+    as-numbers
     ((2, 0) ∷ (2, 0) ∷ (4, 0) ∷ (16, 0) ∷ (4, 0) ∷ (3, 0) ∷ (2, 0) ∷ (13, 0) ∷ (6, 14) ∷ (3, 0) ∷ (2, 1) ∷ (8, 0) ∷ (4, 0) ∷ (5, 5) ∷ (3, 0) ∷ (17, 0)
     ∷ (1, 0)
     ∷ [])
@@ -79,9 +79,9 @@ starred =
     ∷ refuses "DO { }" 4 5
     ∷ refuses "DO PRINTI n" 6 10
     ∷ refuses "DO PRINTI a1" 2 10
-    ∷ record { text = bytes "DO PRINTI 1/0"; readings = []; budget = 1000000; comes-to = runs (code ((2, 1) ∷ (2, 0) ∷ (10, 0) ∷ (17, 0) ∷ (1, 0) ∷ [])) 2 5 3 [] }
-    ∷ record { text = bytes "DO PRINTI (0-7)/2"; readings = []; budget = 1000000; comes-to = runs (code ((2, 0) ∷ (2, 7) ∷ (8, 0) ∷ (2, 2) ∷ (10, 0) ∷ (17, 0) ∷ (1, 0) ∷ [])) 2 0 7 (bytes "-3") }
-    ∷ record { text = bytes "DO { IF 1 > 2 THEN INT n PRINTI n }"; readings = []; budget = 1000000; comes-to = runs (code ((2, 0) ∷ (2, 1) ∷ (2, 2) ∷ (13, 0) ∷ (6, 7) ∷ (2, 0) ∷ (4, 0) ∷ (3, 0) ∷ (17, 0) ∷ (1, 0) ∷ [])) 3 0 8 (bytes "0") }
+    ∷ record { text = bytes "DO PRINTI 1/0"; readings = []; budget = 1000000; comes-to = runs (as-numbers ((2, 1) ∷ (2, 0) ∷ (10, 0) ∷ (17, 0) ∷ (1, 0) ∷ [])) 2 5 3 [] }
+    ∷ record { text = bytes "DO PRINTI (0-7)/2"; readings = []; budget = 1000000; comes-to = runs (as-numbers ((2, 0) ∷ (2, 7) ∷ (8, 0) ∷ (2, 2) ∷ (10, 0) ∷ (17, 0) ∷ (1, 0) ∷ [])) 2 0 7 (bytes "-3") }
+    ∷ record { text = bytes "DO { IF 1 > 2 THEN INT n PRINTI n }"; readings = []; budget = 1000000; comes-to = runs (as-numbers ((2, 0) ∷ (2, 1) ∷ (2, 2) ∷ (13, 0) ∷ (6, 7) ∷ (2, 0) ∷ (4, 0) ∷ (3, 0) ∷ (17, 0) ∷ (1, 0) ∷ [])) 3 0 8 (bytes "0") }
     ∷ record { text = bytes switch; readings = with-reading 1; budget = 1000000; comes-to = runs switch-code 3 1 10 [] }
     ∷ record { text = bytes switch; readings = with-reading 0; budget = 1000000; comes-to = runs switch-code 3 0 12 (bytes "7") }
     ∷ record { text = bytes countdown; readings = with-reading 3; budget = 1000000; comes-to = runs countdown-code 3 0 39 (bytes "0") }
@@ -97,7 +97,7 @@ fac0 = "DO {\n  PRINTS \"Please enter a natural number n: \"\n  INT n\n  READ n\
 -- document 001, listing 6.3, its 36 instructions in our numbers
 abbrev pub fac0-code : List ℤ
 fac0-code =
-    code
+    as-numbers
     ((2, 0) ∷ (2, 0) ∷ (18, 15) ∷ (2, 0) ∷ (4, 0) ∷ (16, 0) ∷ (4, 0) ∷ (2, 0) ∷ (4, 1) ∷ (2, 1) ∷ (4, 1)
     ∷ (3, 0) ∷ (2, 0) ∷ (12, 0) ∷ (6, 19) ∷ (3, 0) ∷ (17, 0) ∷ (19, 141) ∷ (1, 1)
     ∷ (3, 0) ∷ (2, 0) ∷ (13, 0) ∷ (6, 32) ∷ (3, 1) ∷ (3, 0) ∷ (9, 0) ∷ (4, 1) ∷ (3, 0) ∷ (2, 1) ∷ (8, 0) ∷ (4, 0) ∷ (5, 19)

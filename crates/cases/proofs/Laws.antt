@@ -13,7 +13,7 @@ use lib.Seq.{drop-cons, drop-drop, drop-set-lt, take-suc-set, take-all}
 use mir.Val.{boolByte}
 use Rattle.base.specs.Bytes.{run, part}
 use Rattle.base.proofs.Runs.{run-fits, run-part}
-use Rattle.cases.specs.Cases.{no-mark, marks, nth, meant, natural}
+use Rattle.cases.specs.Cases.{no-mark, marks, nth, meant, worth}
 
 pub is-mark : (mark b : ℕ) → b ≡ mark → no-mark mark b ≡ false
 unfolding no-mark
@@ -85,14 +85,14 @@ meant-all file i p = rw (drop-of-length-le file p, append-nil (take i file), tak
 -- ---- numbers
 
 module _ (s : List ℕ) (n i : ℕ) where
-  pub natural-on : i < length s → n ≤ 9999 → natural (n * 10 + (getD s i 0 - 48)) (drop (i + 1) s) ≡ natural n (drop i s)
-  unfolding natural
-  natural-on p few = rw (add-one i, drop-cons s i 0 p, le-ltb 9999 n few)
+  pub worth-on : i < length s → n ≤ 9999 → worth (n * 10 + (getD s i 0 - 48)) (drop (i + 1) s) ≡ worth n (drop i s)
+  unfolding worth
+  worth-on p few = rw (add-one i, drop-cons s i 0 p, le-ltb 9999 n few)
 
-  pub natural-over : i < length s → 9999 < n → n ≡ natural n (drop i s)
-  unfolding natural
-  natural-over p many = rw (drop-cons s i 0 p, lt-ltb 9999 n many)
+  pub worth-over : i < length s → 9999 < n → n ≡ worth n (drop i s)
+  unfolding worth
+  worth-over p many = rw (drop-cons s i 0 p, lt-ltb 9999 n many)
 
-  pub natural-out : length s ≤ i → n ≡ natural n (drop i s)
-  unfolding natural
-  natural-out p = rw (drop-of-length-le s p)
+  pub worth-out : length s ≤ i → n ≡ worth n (drop i s)
+  unfolding worth
+  worth-out p = rw (drop-of-length-le s p)

@@ -23,6 +23,6 @@ unfoldable pub meant : ℕ → ℕ
 meant b = cond (eqb b 10) 30 (cond (eqb b 36) 10 (cond (eqb b 38) 9 (cond (eqb b 37) 13 (cond (eqb b 64) 0 b))))
 
 -- the number that digits make after others that are worth n, up to the first that brings it over 9,999
-unfoldable pub natural : ℕ → List ℕ → ℕ
-natural n [] = n
-natural n (b ∷ s) = cond (ltb 9999 n) n (natural (n * 10 + (b - 48)) s)
+unfoldable pub worth : ℕ → List ℕ → ℕ
+worth n [] = n
+worth n (b ∷ s) = cond (ltb 9999 n) n (worth (n * 10 + (b - 48)) s)

@@ -5,7 +5,7 @@ ghost use mathlib.Core.List.{map};
 ghost use Prim.Native.Nat.{_+_, _-_, _≤_};
 ghost use lib.ListN.{length, drop};
 ghost use Rattle.base.specs.Bytes.{run};
-ghost use Rattle.cases.specs.Cases.{no-mark, marks, nth, meant, natural};
+ghost use Rattle.cases.specs.Cases.{no-mark, marks, nth, meant, worth};
 
 // How many there are.
 pub fn count(cases: &[u8], mark: u8) -> usize
@@ -97,8 +97,8 @@ fn digit(b: u8) -> usize
 }
 
 // The number that digits make, up to the first that brings it over 9,999.
-pub fn natural(digits: &[u8]) -> usize
-    ensures { λ r. ⌜ r ≡ natural 0 (now (digits .entry)) ⌝ }
+pub fn worth(digits: &[u8]) -> usize
+    ensures { λ r. ⌜ r ≡ worth 0 (now (digits .entry)) ⌝ }
 {
     let mut n = 0;
     let mut i = 0;

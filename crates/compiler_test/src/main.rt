@@ -12,7 +12,7 @@ fn at_a_limit(c: &[u8]) {
     edges::nested(
         cases::nth(c, b'|', 0),
         cases::nth(c, b'|', 1),
-        cases::natural(cases::nth(c, b'|', 2)),
+        cases::worth(cases::nth(c, b'|', 2)),
         cases::nth(c, b'|', 3),
         cases::nth(c, b'|', 4),
     );
@@ -22,7 +22,7 @@ fn case(c: &[u8]) {
     let first = cases::nth(c, b'|', 0);
     match cases::count(c, b'|') {
         0 => listings::list(c),
-        1 => edges::short(first, cases::natural(cases::nth(c, b'|', 1))),
+        1 => edges::short(first, cases::worth(cases::nth(c, b'|', 1))),
         2 => say::line(first),
         _ => at_a_limit(c),
     }

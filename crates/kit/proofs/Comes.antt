@@ -19,9 +19,10 @@ use Rattle.tables.specs.declared.Answer.the-variants as answer
 use Rattle.tables.specs.declared.Counts.{Counts}
 use Rattle.compiler.specs.Answers as C
 use Rattle.compiler.specs.Answers.{answered}
-use Rattle.compiler.specs.Compiled.{Accepted, table-after, filled, code-of-text, compiled}
+use Rattle.compiler.specs.Compiled.{Accepted, table-after, code-of-text, compiled}
+use Rattle.tables.specs.Tables.{filled}
 use Rattle.tables.proofs.Filled.{length-numbers}
-use Rattle.kit.specs.Kit.{worked-out, need-of, refused-so, stack-too-short, ran, Says}
+use Rattle.kit.specs.Kit.{worked-out, need-of, refused-so, stack-too-short, ran, Outcome-of}
 use Rattle.kit.specs.declared.Outcome.{Outcome}
 use Rattle.kit.specs.declared.Outcome.the-variants as outcome
 use Rattle.kit.proofs.Faithful.{faithful}
@@ -45,7 +46,7 @@ module _ {a : A.Answer Accepted} {n : ℕ} {k : Counts} {table : List ℤ} (t : 
   unfolding table-after filled
   stands = omega (arith, ap length (t .after) ∙ length-append (numbers (code-of-text (t .text))) _, length-numbers (code-of-text (t .text)), t .count)
 
-  needs : {readings : List ℤ} {budget : ℕ} {stack : List ℤ} {out : List ℕ} → length stack < k .need → Says readings budget stack out a n (outcome.Needs (k .need)) table stack out
+  needs : {readings : List ℤ} {budget : ℕ} {stack : List ℤ} {out : List ℕ} → length stack < k .need → Outcome-of readings budget stack out a n (outcome.Needs (k .need)) table stack out
   needs h = rw (t .is, ← t .need) (record { comes = stack-too-short (t .text) (omega (arith, t .need)); numbers = t .after })
 
 module _ (limits : Limits) (text : List ℕ) (n : ℕ) {r : Answer} {table : List ℤ} (s : C.Compiles (compiled limits text n) n r table) where
@@ -70,7 +71,7 @@ module _ (limits : Limits) (text : List ℕ) (n : ℕ) {r : Answer} {table : Lis
 
   module _ (readings : List ℤ) (budget : ℕ) (stack : List ℤ) (out : List ℕ) where
     abbrev Comes : Outcome → List ℤ → List ℕ → Type 0
-    Comes o stack′ out′ = Says readings budget stack out (compiled limits text n) n o table stack′ out′
+    Comes o stack′ out′ = Outcome-of readings budget stack out (compiled limits text n) n o table stack′ out′
 
     pub comes-refused : {why : Refusal} {p : ℕ} → r ≡ answer.Refused why p → Comes (outcome.Refused why p) stack out
     comes-refused {why} {p} is = record { comes = rw (refusal is) (refused-so why p); numbers = s .numbers }

@@ -33,7 +33,7 @@ module _ (readings : List ℤ) (budget : ℕ) (stack : List ℤ) (out : List ℕ
     ran : (a : Accepted) (r : Code.Report) {stack′ : List ℤ} {out′ : List ℕ} → need-of a ≤ length stack → Promise.Ran (worked-out readings (length out) budget a) stack out r stack′ out′ → Comes-to (given a) (Ran r) stack′ out′
 
   -- with the code table, of n numbers, as the compiler leaves it
-  pub record Says (a : Answer Accepted) (n : ℕ) (r : Outcome) (table′ : List ℤ) (stack′ : List ℤ) (out′ : List ℕ) : Type 0 where
+  pub record Outcome-of (a : Answer Accepted) (n : ℕ) (r : Outcome) (table′ : List ℤ) (stack′ : List ℤ) (out′ : List ℕ) : Type 0 where
     pub comes : Comes-to a r stack′ out′
     pub numbers : table′ ≡ table-after n a
 

@@ -3,7 +3,7 @@ ghost use mathlib.Core.Path.{_≡_};
 ghost use lib.ListN.{length};
 ghost use Rattle.limits.specs.Limits.{Sizes};
 ghost use Rattle.compiler.specs.Compiled.{compiled};
-ghost use Rattle.kit.specs.Kit.{Says, sendable};
+ghost use Rattle.kit.specs.Kit.{Outcome-of, sendable};
 use base::Refusal;
 use limits::Limits;
 use machine::Report;
@@ -29,7 +29,7 @@ pub fn run_text(
 ) -> Outcome
     ghost { Sizes }
     requires { λ sizes. do ⌜ record { word = (← ⟦Limits::WORD⟧); string = (← ⟦Limits::STRING⟧); literal = (← ⟦Limits::LITERAL⟧) } ≡ sizes ⌝ }
-    ensures { λ sizes r. do ⌜ Says (now (readings .entry)) budget (now (stack .entry)) (now (out .entry)) (compiled (record { text = (← ⟦Limits::TEXT⟧ .entry); sizes = sizes; nesting = (← ⟦Limits::NESTING⟧ .entry); declarations = (← ⟦Limits::DECLARATIONS⟧ .entry); instructions = (← ⟦Limits::INSTRUCTIONS⟧ .entry) }) (now (text .entry)) (length (now (table .entry)))) (length (now (table .entry))) r (now (table .exit)) (now (stack .exit)) (now (out .exit)) ⌝ }
+    ensures { λ sizes r. do ⌜ Outcome-of (now (readings .entry)) budget (now (stack .entry)) (now (out .entry)) (compiled (record { text = (← ⟦Limits::TEXT⟧ .entry); sizes = sizes; nesting = (← ⟦Limits::NESTING⟧ .entry); declarations = (← ⟦Limits::DECLARATIONS⟧ .entry); instructions = (← ⟦Limits::INSTRUCTIONS⟧ .entry) }) (now (text .entry)) (length (now (table .entry)))) (length (now (table .entry))) r (now (table .exit)) (now (stack .exit)) (now (out .exit)) ⌝ }
 {
     let a = compiler::compile(text, table);
     match a {

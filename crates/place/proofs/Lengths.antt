@@ -10,7 +10,7 @@ use lib.Dec.{ltb}
 use lib.ListN.{length, take, drop, length-append, length-map, length-replicate, length-take, length-drop}
 use Rattle.base.specs.Bytes.{bytes, bytes-from, run}
 use Rattle.base.proofs.Runs.{run-fits}
-use Rattle.place.specs.Places.{goes-on, begins, within, before, after}
+use Rattle.place.specs.Places.{goes-on, begins, within, before, from-place}
 use Rattle.place.specs.Shown.{Widths, shown-from, shown-to, only, line, mark, marked, marked-line}
 use Rattle.place.proofs.Places.{count-fits}
 
@@ -47,4 +47,4 @@ marked-short w bs cs =
 -- with 60, 40, 36 and 3 bytes: 169
 pub marked-fits : (w : Widths) (text : List ℕ) (place : ℕ) → length (marked-line w text place) ≤ 2 * max (w .whole) (w .last + 3) + w .next + w .rest + 10
 unfolding marked-line
-marked-fits w text place = marked-short w (before text (within text place)) (after text (within text place))
+marked-fits w text place = marked-short w (before text (within text place)) (from-place text (within text place))

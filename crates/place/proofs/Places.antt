@@ -8,7 +8,7 @@ use native.Mathlib.Numerals.{add-one}
 use native.Mathlib.Omega.{arith}
 use lib.ListN.{length, getD, take, drop, length-take, drop-of-length-le}
 use lib.Seq.{drop-cons}
-use Rattle.place.specs.Places.{feed, count, within, line-start}
+use Rattle.place.specs.Places.{line-feed, count, within, line-start}
 
 module _ (such : ℕ → Bool) where
   -- a count after the test of its first byte
@@ -53,15 +53,15 @@ module _ (text : List ℕ) where
   abbrev started : ℕ → Bool → ℕ
   started p t = elim t [ true ↦ suc p | false ↦ line-start text p ]
 
-  from-test : (i : ℕ) → 0 < i → line-start text i ≡ started (i - 1) (feed (getD text (i - 1) 0))
+  from-test : (i : ℕ) → 0 < i → line-start text i ≡ started (i - 1) (line-feed (getD text (i - 1) 0))
   unfolding line-start
   from-test zero p = absurd (omega arith)
   from-test (suc i) p = let e : suc i - 1 ≡ i = omega arith in rw e
 
-  pub start-here : (i : ℕ) → 0 < i → feed (getD text (i - 1) 0) ≡ true → i ≡ line-start text i
+  pub start-here : (i : ℕ) → 0 < i → line-feed (getD text (i - 1) 0) ≡ true → i ≡ line-start text i
   start-here i p h = let e : i ≡ suc (i - 1) = omega arith in e ∙ sym (from-test i p ∙ ap (started (i - 1)) h)
 
-  pub start-back : (i : ℕ) → 0 < i → feed (getD text (i - 1) 0) ≡ false → line-start text (i - 1) ≡ line-start text i
+  pub start-back : (i : ℕ) → 0 < i → line-feed (getD text (i - 1) 0) ≡ false → line-start text (i - 1) ≡ line-start text i
   start-back i p h = sym (from-test i p ∙ ap (started (i - 1)) h)
 
   pub start-first : (i : ℕ) → i ≤ 0 → i ≡ line-start text i
@@ -72,7 +72,7 @@ module _ (text : List ℕ) where
   begun : (p : ℕ) → line-start text p ≤ p
   unfolding line-start
   begun zero = le-refl 0
-  begun (suc p) = by-test (begun p) (feed (getD text p 0))
+  begun (suc p) = by-test (begun p) (line-feed (getD text p 0))
     where
       by-test : line-start text p ≤ p → (t : Bool) → started p t ≤ suc p
       by-test h true = omega arith

@@ -13,7 +13,7 @@ use lib.Seq.{take-suc, take-all, take-length, drop-length}
 use Rattle.base.specs.Bytes.{run}
 use Rattle.base.proofs.Runs.{run-fits, run-part}
 use Rattle.lines.specs.Added.{Added}
-use Rattle.place.specs.Places.{goes-on, no-feed, within, line-start, before, after}
+use Rattle.place.specs.Places.{goes-on, no-line-feed, within, line-start, before, from-place}
 use Rattle.place.specs.Shown.{Widths, seen, shown-from, shown-to, line, mark, marked, marked-line}
 
 -- a part that goes to the end
@@ -71,8 +71,8 @@ pub space-more : (i : ℕ) → replicate {A = ℕ} (i + 1) 32 ≡ replicate i 32
 space-more i = sym (replicate-append-replicate {A = ℕ} i 1 32)
 
 -- the bytes from a place on, up to the end of its line
-pub end-fits : (text : List ℕ) (p r : ℕ) → p ≤ length text → r ≡ length (run no-feed (take (length text - p) (drop p text))) → p + r ≤ length text
-end-fits text p r h e = omega (arith, run-fits no-feed (take (length text - p) (drop p text)), length-take (length text - p) (drop p text), length-drop p text)
+pub end-fits : (text : List ℕ) (p r : ℕ) → p ≤ length text → r ≡ length (run no-line-feed (take (length text - p) (drop p text))) → p + r ≤ length text
+end-fits text p r h e = omega (arith, run-fits no-line-feed (take (length text - p) (drop p text)), length-take (length text - p) (drop p text), length-drop p text)
 
 pub same-adds : {s t page page′ : List ℕ} {at end : ℕ} → s ≡ t → Added s page at page′ end → Added t page at page′ end
 same-adds e a = rw e at a
@@ -83,8 +83,8 @@ unfolding marked
 marked-parts w bs cs from to ef et = rw (to-end bs from, ef, et)
 
 -- the same, from parts of the text
-pub marked-text : (w : Widths) (text : List ℕ) (place p start r : ℕ) → p ≡ within text place → start ≡ line-start text p → r ≡ length (run no-feed (take (length text - p) (drop p text))) → marked w (take (p - start) (drop start text)) (take (p + r - p) (drop p text)) ≡ marked-line w text place
-unfolding marked-line before after
+pub marked-text : (w : Widths) (text : List ℕ) (place p start r : ℕ) → p ≡ within text place → start ≡ line-start text p → r ≡ length (run no-line-feed (take (length text - p) (drop p text))) → marked w (take (p - start) (drop start text)) (take (p + r - p) (drop p text)) ≡ marked-line w text place
+unfolding marked-line before from-place
 marked-text w text place p start r ep es er =
-    let ends : p + r ≡ p + length (run no-feed (drop p text)) = rw (er, to-end text p) in
-    rw (run-part no-feed text p (p + r) ends, es, ep)
+    let ends : p + r ≡ p + length (run no-line-feed (drop p text)) = rw (er, to-end text p) in
+    rw (run-part no-line-feed text p (p + r) ends, es, ep)

@@ -6,7 +6,7 @@ use Prim.Native.Char.{code}
 use lib.Dec.{eqb, ltb}
 use lib.ListN.{length, take, drop, replicate}
 use Rattle.base.specs.Bytes.{bytes, run}
-use Rattle.place.specs.Places.{goes-on, begins, count, within, before, after}
+use Rattle.place.specs.Places.{goes-on, begins, count, within, before, from-place}
 
 -- how much is shown: before the place `whole` bytes at most, and of more than those the last `last`; from the place on `next`, and `rest` more at most that go on a character
 pub record Widths : Type 0 where
@@ -48,4 +48,4 @@ marked w bs cs =
     line (ltb 0 from) (drop from bs) (take to cs) (ltb to (length cs)) ++ mark (ltb 0 from) (drop from bs)
 
 unfoldable pub marked-line : Widths → List ℕ → ℕ → List ℕ
-marked-line w text place = marked w (before text (within text place)) (after text (within text place))
+marked-line w text place = marked w (before text (within text place)) (from-place text (within text place))

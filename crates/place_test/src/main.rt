@@ -40,7 +40,7 @@ fn case(c: &[u8]) {
     see(
         cases::nth(c, b'|', 0),
         cases::nth(c, b'|', 1),
-        cases::natural(cases::nth(c, b'|', 2)),
+        cases::worth(cases::nth(c, b'|', 2)),
     );
 }
 

@@ -25,8 +25,8 @@ use Rattle.kit.specs.declared.Outcome.{Outcome}
 use Rattle.kit.specs.declared.Outcome.the-variants as outcome
 use Rattle.programs.specs.Programs.{tabled, came}
 use Rattle.programs.specs.Programs as P
-use Rattle.programs.specs.Says.{Says, Comes, Tells, with-output, room-left}
-use Rattle.programs.specs.Says as S
+use Rattle.programs.specs.Writes.{Writes, Comes, Tells, with-output, room-left}
+use Rattle.programs.specs.Writes as S
 use Rattle.programs.specs.declared.Said.{Said}
 use Rattle.programs.specs.declared.Came.{Came}
 use Rattle.programs.specs.declared.Came.the-variants as came-as
@@ -119,5 +119,5 @@ module _ {room : List ℕ} where
   comes-room (S.refused-so why p) = refl
   comes-room (S.ran w r x) = x .room
 
-  pub tells : (say : Answer Report → P.Said) {a : Answer Report} {c : Came} {r : Said} {room′ out out′ err err′ : List ℕ} → Comes room a c room′ → Says (say (with-output c room′)) r out out′ err err′ → Tells say a room r room′ out out′ err err′
+  pub tells : (say : Answer Report → P.Said) {a : Answer Report} {c : Came} {r : Said} {room′ out out′ err err′ : List ℕ} → Comes room a c room′ → Writes (say (with-output c room′)) r out out′ err err′ → Tells say a room r room′ out out′ err err′
   tells say x s = record { says = rw (comes-output x) at s; after = comes-room x }

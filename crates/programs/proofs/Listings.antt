@@ -17,16 +17,16 @@ use Rattle.lines.specs.Added.{Added}
 use Rattle.lines.specs.Lines.{refused-line, accepted-line, table-lines}
 use Rattle.lines.proofs.Short.{Small, short-accepted}
 use Rattle.programs.specs.Programs.{listed}
-use Rattle.programs.specs.Says.{Says}
+use Rattle.programs.specs.Writes.{Writes}
 use Rattle.programs.proofs.Pages.{said-bytes, said-page, untouched}
 
 module _ (limits : Limits) (text : List ℕ) (n : ℕ) {r : Answer} {table : List ℤ} (s : C.Compiles (compiled limits text n) n r table) {page page′ : List ℕ} {end : ℕ} where
-  pub listed-refused : {why : Refusal} {p : ℕ} → r ≡ answer.Refused why p → length (refused-line why p) ≤ length page → Added (refused-line why p) page 0 page′ end → Says (listed (compiled limits text n)) (record { out = end; err = 0; status = 1 }) page page′ [] []
+  pub listed-refused : {why : Refusal} {p : ℕ} → r ≡ answer.Refused why p → length (refused-line why p) ≤ length page → Added (refused-line why p) page 0 page′ end → Writes (listed (compiled limits text n)) (record { out = end; err = 0; status = 1 }) page page′ [] []
   unfolding listed
   listed-refused is short a = rw (refusal limits text n s is) (record { written = said-bytes a short; page = said-page a short; noted = refl; note = untouched []; status = refl })
 
   module _ {k : Counts} (is : r ≡ answer.Accepted k) where
-    pub listed-accepted : let line = accepted-line (k .instructions) (k .cells) (k .need) ++ table-lines (take (k .instructions * 2) table) in length line ≤ length page → Added line page 0 page′ end → Says (listed (compiled limits text n)) (record { out = end; err = 0; status = 0 }) page page′ [] []
+    pub listed-accepted : let line = accepted-line (k .instructions) (k .cells) (k .need) ++ table-lines (take (k .instructions * 2) table) in length line ≤ length page → Added line page 0 page′ end → Writes (listed (compiled limits text n)) (record { out = end; err = 0; status = 0 }) page page′ [] []
     unfolding listed
     listed-accepted short a =
         let t = took limits text n s is in

@@ -16,8 +16,8 @@ use Rattle.base.specs.declared.Refusal.{Refusal}
 use Rattle.lines.specs.Lines.{line-end, refused-line, ending-line}
 use Rattle.lines.proofs.Short.{Small, short-ending}
 use Rattle.programs.specs.Programs as P
-use Rattle.programs.specs.Programs.{status-of, told, sent}
-use Rattle.programs.specs.Says.{Says, with-output}
+use Rattle.programs.specs.Programs.{status-of, said-of-run, sent}
+use Rattle.programs.specs.Writes.{Writes, with-output}
 use Rattle.programs.specs.declared.Said.{Said}
 use Rattle.programs.specs.declared.Came.{Came}
 use Rattle.programs.specs.declared.Came.the-variants as came
@@ -56,28 +56,28 @@ sendable-short e output room h = by (eqb e 0 && leb (length output) (length outp
 
 module _ (room : List ℕ) {page page′ : List ℕ} {end : ℕ} {c : Came} where
   module _ {why : Refusal} {p : ℕ} (is : c ≡ came.Refused why p) (short : length (refused-line why p) ≤ length page) (a : Added (refused-line why p) page 0 page′ end) where
-    pub told-refused : Says (told (with-output c room)) (record { out = end; err = 0; status = 1 }) page page′ [] []
-    unfolding told with-output
+    pub told-refused : Writes (said-of-run (with-output c room)) (record { out = end; err = 0; status = 1 }) page page′ [] []
+    unfolding said-of-run with-output
     told-refused = rw is (record { written = said-bytes a short; page = said-page a short; noted = refl; note = untouched []; status = refl })
 
-    pub sent-refused : {out : List ℕ} → Says (sent (with-output c room)) (record { out = 0; err = end; status = 1 }) out out page page′
+    pub sent-refused : {out : List ℕ} → Writes (sent (with-output c room)) (record { out = 0; err = end; status = 1 }) out out page page′
     unfolding sent with-output
     sent-refused {out} = rw is (record { written = refl; page = untouched out; noted = said-bytes a short; note = said-page a short; status = refl })
 
   module _ {r : Code.Report} (is : c ≡ came.Ran r) where
     module _ {status : ℕ} (e : status ≡ status-of (r .ending)) where
-      pub told-ran : length (take (r .length) room ++ line-end ++ ending-line (r .ending) (r .steps)) ≤ length page → Added (take (r .length) room ++ line-end ++ ending-line (r .ending) (r .steps)) page 0 page′ end → Says (told (with-output c room)) (record { out = end; err = 0; status = status }) page page′ [] []
-      unfolding told with-output
+      pub told-ran : length (take (r .length) room ++ line-end ++ ending-line (r .ending) (r .steps)) ≤ length page → Added (take (r .length) room ++ line-end ++ ending-line (r .ending) (r .steps)) page 0 page′ end → Writes (said-of-run (with-output c room)) (record { out = end; err = 0; status = status }) page page′ [] []
+      unfolding said-of-run with-output
       told-ran short a = rw is (record { written = said-bytes a short; page = said-page a short; noted = refl; note = untouched []; status = e })
 
     module _ (short : length (take (r .length) room) ≤ length page) (a : Added (sendable (r .ending) (length (take (r .length) room)) (take (r .length) room)) page 0 page′ end) where
-      pub sent-ran : {note : List ℕ} → r .ending ≡ 0 → Says (sent (with-output c room)) (record { out = end; err = 0; status = 0 }) page page′ note note
+      pub sent-ran : {note : List ℕ} → r .ending ≡ 0 → Writes (sent (with-output c room)) (record { out = end; err = 0; status = 0 }) page page′ note note
       unfolding sent with-output status-of
       sent-ran {note} e =
           let fits = sendable-short (r .ending) (take (r .length) room) (length page) short in
           rw (is, eq-eqb (r .ending) 0 e) (record { written = said-bytes a fits; page = said-page a fits; noted = refl; note = untouched note; status = refl })
 
-      pub sent-not : {note note′ : List ℕ} {size : ℕ} → (r .ending ≡ 0 → ⊥) → length (ending-line (r .ending) (r .steps)) ≤ length note → Added (ending-line (r .ending) (r .steps)) note 0 note′ size → Says (sent (with-output c room)) (record { out = end; err = size; status = 1 }) page page′ note note′
+      pub sent-not : {note note′ : List ℕ} {size : ℕ} → (r .ending ≡ 0 → ⊥) → length (ending-line (r .ending) (r .steps)) ≤ length note → Added (ending-line (r .ending) (r .steps)) note 0 note′ size → Writes (sent (with-output c room)) (record { out = end; err = size; status = 1 }) page page′ note note′
       unfolding sent with-output status-of
       sent-not e few b =
           let fits = sendable-short (r .ending) (take (r .length) room) (length page) short in
@@ -89,7 +89,7 @@ on-one : (s page : List ℕ) {page′ : List ℕ} {n : ℕ} → n ≡ length s �
 unfolding room-after
 on-one s page e p = rw (e, p) (omega (arith, length-append s (drop (length s) page)))
 
-module _ {s : P.Said} {r : Said} {out out′ err err′ : List ℕ} (x : Says s r out out′ err err′) where
+module _ {s : P.Said} {r : Said} {out out′ err err′ : List ℕ} (x : Writes s r out out′ err err′) where
   pub on-page : r .out ≤ length out′
   on-page = on-one (s .out) out (x .written) (x .page)
 

@@ -1,2 +1,2 @@
 pub mod Programs
-pub mod Says
+pub mod Writes

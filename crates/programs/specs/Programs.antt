@@ -55,12 +55,12 @@ listing limits text = listed (tabled limits text)
 unfoldable pub status-of : ℕ → ℕ
 status-of ending = cond (eqb ending normal) good not-good
 
-unfoldable pub told : Answer Report → Said
-told (given r) = record { out = r .output ++ line-end ++ ending-line (r .ending) (r .steps); err = []; status = status-of (r .ending) }
-told (refused why p) = record { out = refused-line why p; err = []; status = not-good }
+unfoldable pub said-of-run : Answer Report → Said
+said-of-run (given r) = record { out = r .output ++ line-end ++ ending-line (r .ending) (r .steps); err = []; status = status-of (r .ending) }
+said-of-run (refused why p) = record { out = refused-line why p; err = []; status = not-good }
 
 unfoldable pub station : Limits → Station → List ℕ → List ℕ → Said
-station limits s text input = told (came-on limits s text input)
+station limits s text input = said-of-run (came-on limits s text input)
 
 -- ---- for the feed: only what may be sent; on standard error, how any other run ended; its status is good exactly when the output may be sent
 

@@ -3,8 +3,8 @@ ghost use mathlib.Core.Path.{_≡_};
 ghost use mathlib.Core.List.{[]};
 ghost use lib.ListN.{length, take};
 ghost use Rattle.limits.specs.Limits.{Sizes};
-ghost use Rattle.programs.specs.Programs.{tabled, came, listed, status-of, told, sent};
-ghost use Rattle.programs.specs.Says.{Given, Says, Comes, Tells, with-output};
+ghost use Rattle.programs.specs.Programs.{tabled, came, listed, status-of, said-of-run, sent};
+ghost use Rattle.programs.specs.Writes.{Given, Writes, Comes, Tells, with-output};
 use base::Refusal;
 use kit::Outcome;
 use limits::Limits;
@@ -64,7 +64,7 @@ pub fn lesson(text: &[u8], readings: &[i32], room: &mut [u8; Station::ROOM]) -> 
 pub fn listing(text: &[u8], page: &mut [u8; LISTING]) -> Said
     ghost { Sizes }
     requires { λ sizes. do ⌜ record { word = (← ⟦Limits::WORD⟧); string = (← ⟦Limits::STRING⟧); literal = (← ⟦Limits::LITERAL⟧) } ≡ sizes ⌝ }
-    ensures { λ sizes r. do ⌜ Says (listed (tabled (record { text = (← ⟦Limits::TEXT⟧ .entry); sizes = sizes; nesting = (← ⟦Limits::NESTING⟧ .entry); declarations = (← ⟦Limits::DECLARATIONS⟧ .entry); instructions = (← ⟦Limits::INSTRUCTIONS⟧ .entry) }) (now (text .entry)))) r (now (page .entry)) (now (page .exit)) [] [] ⌝ }
+    ensures { λ sizes r. do ⌜ Writes (listed (tabled (record { text = (← ⟦Limits::TEXT⟧ .entry); sizes = sizes; nesting = (← ⟦Limits::NESTING⟧ .entry); declarations = (← ⟦Limits::DECLARATIONS⟧ .entry); instructions = (← ⟦Limits::INSTRUCTIONS⟧ .entry) }) (now (text .entry)))) r (now (page .entry)) (now (page .exit)) [] [] ⌝ }
 {
     let mut table = [0i32; Limits::INSTRUCTIONS * 2];
     let a = compiler::compile(text, &mut table);
@@ -108,7 +108,7 @@ pub fn output(length: usize, room: &[u8]) -> &[u8]
 
 // The output of a run, a line end, and how it ended; or the line of the refusal.
 fn tell(c: Came, room: &[u8; Station::ROOM], page: &mut [u8; PAGE]) -> Said
-    ensures { λ r. ⌜ Says (told (with-output c (now (room .entry)))) r (now (page .entry)) (now (page .exit)) [] [] ⌝ }
+    ensures { λ r. ⌜ Writes (said-of-run (with-output c (now (room .entry)))) r (now (page .entry)) (now (page .exit)) [] [] ⌝ }
 {
     match c {
         Came::Refused(why, place) => Said {
@@ -137,7 +137,7 @@ pub fn station(
 ) -> Said
     ghost { Given }
     requires { λ g. do ⌜ record { sizes = record { word = (← ⟦Limits::WORD⟧); string = (← ⟦Limits::STRING⟧); literal = (← ⟦Limits::LITERAL⟧) }; budget = (← ⟦Station::BUDGET⟧) } ≡ g ⌝ }
-    ensures { λ g r. do ⌜ Tells told (came (record { text = (← ⟦Limits::TEXT⟧ .entry); sizes = g .sizes; nesting = (← ⟦Limits::NESTING⟧ .entry); declarations = (← ⟦Limits::DECLARATIONS⟧ .entry); instructions = (← ⟦Limits::INSTRUCTIONS⟧ .entry) }) (g .budget) (length (now (room .entry))) (now (text .entry)) (now (readings .entry))) (now (room .entry)) r (now (room .exit)) (now (page .entry)) (now (page .exit)) [] [] ⌝ }
+    ensures { λ g r. do ⌜ Tells said-of-run (came (record { text = (← ⟦Limits::TEXT⟧ .entry); sizes = g .sizes; nesting = (← ⟦Limits::NESTING⟧ .entry); declarations = (← ⟦Limits::DECLARATIONS⟧ .entry); instructions = (← ⟦Limits::INSTRUCTIONS⟧ .entry) }) (g .budget) (length (now (room .entry))) (now (text .entry)) (now (readings .entry))) (now (room .entry)) r (now (room .exit)) (now (page .entry)) (now (page .exit)) [] [] ⌝ }
 {
     let c = lesson(text, readings, room);
     tell(c, room, page)
@@ -145,7 +145,7 @@ pub fn station(
 
 // What may be sent on to the feed, and on a page of its own why nothing may.
 fn send(c: Came, room: &[u8; Station::ROOM], page: &mut [u8; PAGE], note: &mut [u8; LINE]) -> Said
-    ensures { λ r. ⌜ Says (sent (with-output c (now (room .entry)))) r (now (page .entry)) (now (page .exit)) (now (note .entry)) (now (note .exit)) ⌝ }
+    ensures { λ r. ⌜ Writes (sent (with-output c (now (room .entry)))) r (now (page .entry)) (now (page .exit)) (now (note .entry)) (now (note .exit)) ⌝ }
 {
     match c {
         Came::Refused(why, place) => Said {

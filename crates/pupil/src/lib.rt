@@ -6,7 +6,7 @@ ghost use Prim.Native.Nat.{_+_, _≤_};
 ghost use lib.ListN.{length};
 ghost use Rattle.base.specs.Bytes.{bytes};
 ghost use Rattle.lines.specs.Added.{Added};
-ghost use Rattle.programs.specs.Says.{Says, with-output};
+ghost use Rattle.programs.specs.Writes.{Writes, with-output};
 ghost use Rattle.pupil.specs.Shows.{has-place, at-place, shown-refusal, shown-output, steps-taken, shown-run, shown};
 use base::Refusal;
 use limits::Station;
@@ -96,7 +96,7 @@ pub fn show(
     room: &[u8; Station::ROOM],
     page: &mut [u8; SHOWN],
 ) -> Said
-    ensures { λ r. do ⌜ Says (shown (record { whole = (← ⟦Window::WHOLE⟧ .entry); last = (← ⟦Window::LAST⟧ .entry); next = (← ⟦Window::NEXT⟧ .entry); rest = (← ⟦Window::REST⟧ .entry) }) n (now (text .entry)) (with-output c (now (room .entry)))) r (now (page .entry)) (now (page .exit)) [] [] ⌝ }
+    ensures { λ r. do ⌜ Writes (shown (record { whole = (← ⟦Window::WHOLE⟧ .entry); last = (← ⟦Window::LAST⟧ .entry); next = (← ⟦Window::NEXT⟧ .entry); rest = (← ⟦Window::REST⟧ .entry) }) n (now (text .entry)) (with-output c (now (room .entry)))) r (now (page .entry)) (now (page .exit)) [] [] ⌝ }
 {
     match c {
         Came::Refused(why, place) => Said {

@@ -10,7 +10,7 @@ use mir.Val.{SFits, toZ}
 use mir.Facts.{toZ-pos}
 use borrow.Author.Tests.{leb-true}
 use Rattle.base.specs.Bytes.{digit}
-use Rattle.readings.specs.Readings.{in-range}
+use Rattle.readings.specs.Readings.{in-signed-range}
 
 first : (t u : Bool) → t && u ≡ true → t ≡ true
 first true u e = refl
@@ -20,16 +20,16 @@ pub digit-low : (b : ℕ) → digit b ≡ true → 48 ≤ b
 unfolding digit
 digit-low b e = leb-true 48 b (first (leb 48 b) (leb b 57) e)
 
-pub range-positive : (n : ℕ) → in-range false n ≡ true → n < 2147483648
-unfolding in-range
+pub range-positive : (n : ℕ) → in-signed-range false n ≡ true → n < 2147483648
+unfolding in-signed-range
 range-positive n e = omega (arith, leb-true n 2147483647 e)
 
-pub range-most : (negative : Bool) (n : ℕ) → in-range negative n ≡ true → n ≤ 2147483648
-unfolding in-range
+pub range-most : (negative : Bool) (n : ℕ) → in-signed-range negative n ≡ true → n ≤ 2147483648
+unfolding in-signed-range
 range-most true n e = leb-true n 2147483648 e
 range-most false n e = omega (arith, leb-true n 2147483647 e)
 
-pub positive-fits : (n : ℕ) → in-range false n ≡ true → SFits w32 (pos n)
+pub positive-fits : (n : ℕ) → in-signed-range false n ≡ true → SFits w32 (pos n)
 positive-fits n e = record { sfits = range-positive n e }
 
 module _ (n : ℕ) (h : n ≤ 2147483648) where

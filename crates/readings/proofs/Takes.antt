@@ -13,9 +13,9 @@ use lib.ListN.{length, drop, set, length-set}
 use lib.Seq.{sets-eq}
 use borrow.Author.Tests.{lt-ltb, le-ltb, leb-true}
 use Rattle.base.specs.Bytes.{separator, run}
-use Rattle.readings.specs.Readings.{number, reading, other, past, readings}
-use Rattle.readings.specs.Rest.{after, within, left, stored-after, takes, stopped, over}
-use Rattle.readings.specs.Steps.{Held, held, word-more, stored, ended, ended-at}
+use Rattle.readings.specs.Readings.{number-in-range, reading, other, past, readings}
+use Rattle.readings.specs.Rest.{from-a-word, from-within, left, stored-after, takes, stopped, over}
+use Rattle.readings.specs.Steps.{Both, both, word-more, stored, ended, ended-at}
 use Rattle.readings.specs.Taken.{Taken, taken-in}
 use Rattle.readings.specs.declared.Phase.{Phase}
 use Rattle.readings.specs.declared.Phase.the-variants.{Between, Minus, Number, Over}
@@ -43,7 +43,7 @@ unfolding readings
 few zero s = le-refl 0
 few (suc n) s = by-word (few n (past other (past separator s))) (reading (run other (past separator s)))
   where
-    by-word : length (readings n (past other (past separator s))) ≤ n → (o : Option ℤ) → length (after n o (past other (past separator s))) ≤ suc n
+    by-word : length (readings n (past other (past separator s))) ≤ n → (o : Option ℤ) → length (from-a-word n o (past other (past separator s))) ≤ suc n
     by-word h none = omega arith
     by-word h (some z) = omega arith
 
@@ -56,17 +56,17 @@ at-start l s =
 -- ---- the end of a word
 
 -- a word ends where s begins, t has the same readings as s, and F is what becomes of the reader after it
-module _ (s t : List ℕ) (ends : run other s ≡ []) (same : (n : ℕ) → readings n t ≡ readings n s) (F : Held → Taken)
-    (on : (k : ℕ) (l : List ℤ) → F (held Between k l) ≡ stored-after k l (readings (length l - k) t))
-    (off : (k : ℕ) (l : List ℤ) → F (held Over k l) ≡ stored-after k l []) where
-  number-stored : (k m : ℕ) (l : List ℤ) → length l - k ≡ m → (negative : Bool) (n : ℕ) (z : ℤ) → number negative n ≡ some z → F (stored (some z) k l) ≡ stored-after k l (left m (Number negative n) s)
-  unfolding stored left within
+module _ (s t : List ℕ) (ends : run other s ≡ []) (same : (n : ℕ) → readings n t ≡ readings n s) (F : Both → Taken)
+    (on : (k : ℕ) (l : List ℤ) → F (both Between k l) ≡ stored-after k l (readings (length l - k) t))
+    (off : (k : ℕ) (l : List ℤ) → F (both Over k l) ≡ stored-after k l []) where
+  number-stored : (k m : ℕ) (l : List ℤ) → length l - k ≡ m → (negative : Bool) (n : ℕ) (z : ℤ) → number-in-range negative n ≡ some z → F (stored (some z) k l) ≡ stored-after k l (left m (Number negative n) s)
+  unfolding stored left from-within
   number-stored k zero l room negative n z e = rw (le-ltb k (length l) (omega arith)) (off k l)
   number-stored k (suc m) l room negative n z e =
       let less : length (set l k z) - (k + 1) ≡ m = rw (length-set l k z) (omega arith) in
       rw (lt-ltb k (length l) (omega arith), left-some s ends m n negative z e, ← same m) ((rw less at (on (k + 1) (set l k z))) ∙ one-stored k l z (readings m t))
 
-  number-ends : (k : ℕ) (l : List ℤ) (negative : Bool) (n : ℕ) (o : Option ℤ) → number negative n ≡ o → F (stored o k l) ≡ stored-after k l (left (length l - k) (Number negative n) s)
+  number-ends : (k : ℕ) (l : List ℤ) (negative : Bool) (n : ℕ) (o : Option ℤ) → number-in-range negative n ≡ o → F (stored o k l) ≡ stored-after k l (left (length l - k) (Number negative n) s)
   unfolding stored
   number-ends k l negative n none e = rw (left-none s ends (length l - k) n negative e) (off k l)
   number-ends k l negative n (some z) e = number-stored k (length l - k) l refl negative n z e
@@ -75,12 +75,12 @@ module _ (s t : List ℕ) (ends : run other s ≡ []) (same : (n : ℕ) → read
   unfolding ended-at left
   word-ends Between k l = on k l ∙ ap (stored-after k l) (same (length l - k))
   word-ends Minus k l = rw (left-minus s ends (length l - k)) (off k l)
-  word-ends (Number negative n) k l = number-ends k l negative n (number negative n) refl
+  word-ends (Number negative n) k l = number-ends k l negative n (number-in-range negative n) refl
   word-ends Over k l = off k l
 
 -- ---- a byte
 
-pub at-separator : (h : Held) (b : ℕ) (s : List ℕ) → separator b ≡ true → takes (ended h .reader) (ended h .numbers) s ≡ takes (h .reader) (h .numbers) (b ∷ s)
+pub at-separator : (h : Both) (b : ℕ) (s : List ℕ) → separator b ≡ true → takes (ended h .reader) (ended h .numbers) s ≡ takes (h .reader) (h .numbers) (b ∷ s)
 unfolding takes left ended
 at-separator h b s e = word-ends (b ∷ s) s (separates b s e) (λ n. sym (skip n b s e)) (λ x. takes (x .reader) (x .numbers) s) (λ k l. refl) (λ k l. refl) (h .reader .phase) (h .reader .count) (h .numbers)
 
@@ -95,7 +95,7 @@ unfolding readings reading past run
 none-left zero = refl
 none-left (suc m) = refl
 
-pub at-end : (h : Held) → record { count = ended h .reader .count; numbers = ended h .numbers } ≡ takes (h .reader) (h .numbers) []
+pub at-end : (h : Both) → record { count = ended h .reader .count; numbers = ended h .numbers } ≡ takes (h .reader) (h .numbers) []
 unfolding takes ended run
 at-end h = word-ends [] [] refl (λ n. refl) (λ x. record { count = x .reader .count; numbers = x .numbers }) (λ k l. rw (none-left (length l - k)) (none-stored k l)) none-stored (h .reader .phase) (h .reader .count) (h .numbers)
 
@@ -103,7 +103,7 @@ at-end h = word-ends [] [] refl (λ n. refl) (λ x. record { count = x .reader .
 
 -- nothing is left where there is no room, or where something came that is no reading
 none-over : (p : Phase) (m : ℕ) (s : List ℕ) → m ≡ 0 → left m p s ≡ []
-unfolding left within readings
+unfolding left from-within readings
 none-over Between m s e = rw e
 none-over Minus m s e = rw e
 none-over (Number negative n) m s e = rw e

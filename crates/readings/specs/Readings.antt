@@ -10,24 +10,24 @@ use lib.ListN.{length, drop}
 use Rattle.base.specs.Bytes.{separator, digit, run, all, value}
 
 -- whether a number with this sign and magnitude is in the signed 32-bit range
-unfoldable pub in-range : Bool → ℕ → Bool
-in-range negative n = leb n (cond negative 2147483648 2147483647)
+unfoldable pub in-signed-range : Bool → ℕ → Bool
+in-signed-range negative n = leb n (cond negative 2147483648 2147483647)
 
 unfoldable pub signed : Bool → ℕ → ℤ
 signed negative n = cond negative (negℤ (pos n)) (pos n)
 
-unfoldable pub number : Bool → ℕ → Option ℤ
-number negative n = cond (in-range negative n) (some (signed negative n)) none
+unfoldable pub number-in-range : Bool → ℕ → Option ℤ
+number-in-range negative n = cond (in-signed-range negative n) (some (signed negative n)) none
 
 -- one or more digits, after a minus or without one
-unfoldable pub decimal : Bool → List ℕ → Option ℤ
-decimal negative [] = none
-decimal negative (b ∷ w) = cond (all digit (b ∷ w)) (number negative (value 0 (b ∷ w))) none
+unfoldable pub digits-reading : Bool → List ℕ → Option ℤ
+digits-reading negative [] = none
+digits-reading negative (b ∷ w) = cond (all digit (b ∷ w)) (number-in-range negative (value 0 (b ∷ w))) none
 
 -- what a word reads as
 unfoldable pub reading : List ℕ → Option ℤ
 reading [] = none
-reading (b ∷ w) = cond (eqb b (code "-")) (decimal true w) (decimal false (b ∷ w))
+reading (b ∷ w) = cond (eqb b (code "-")) (digits-reading true w) (digits-reading false (b ∷ w))
 
 -- any byte but a separator
 unfoldable pub other : ℕ → Bool

@@ -9,7 +9,7 @@ use lib.IntN.{ℤ}
 use lib.ListN.{length}
 use lib.Seq.{sets}
 use Rattle.base.specs.Bytes.{digit, run, all, value}
-use Rattle.readings.specs.Readings.{number, decimal, reading, other, past, readings}
+use Rattle.readings.specs.Readings.{number-in-range, digits-reading, reading, other, past, readings}
 use Rattle.readings.specs.Taken.{Taken}
 use Rattle.readings.specs.declared.Phase.{Phase}
 use Rattle.readings.specs.declared.Phase.the-variants.{Between, Minus, Number, Over}
@@ -18,24 +18,24 @@ use Rattle.readings.specs.declared.Reader.{Reader}
 -- what a word reads as whose beginning led to this phase, where w is the rest of it
 unfoldable pub word-of : Phase → List ℕ → Option ℤ
 word-of Between w = reading w
-word-of Minus w = decimal true w
-word-of (Number negative n) w = cond (all digit w) (number negative (value n w)) none
+word-of Minus w = digits-reading true w
+word-of (Number negative n) w = cond (all digit w) (number-in-range negative (value n w)) none
 word-of Over w = none
 
 -- the readings from a word on that reads as o, where s follows it and there is room for m more
-abbrev pub after : ℕ → Option ℤ → List ℕ → List ℤ
-after m o s = elim o [ none ↦ [] | some z ↦ z ∷ readings m s ]
+abbrev pub from-a-word : ℕ → Option ℤ → List ℕ → List ℤ
+from-a-word m o s = elim o [ none ↦ [] | some z ↦ z ∷ readings m s ]
 
 -- the readings from within a word on, where s is the rest of the input and there is room for so many
-unfoldable pub within : ℕ → Phase → List ℕ → List ℤ
-within zero p s = []
-within (suc m) p s = after m (word-of p (run other s)) (past other s)
+unfoldable pub from-within : ℕ → Phase → List ℕ → List ℤ
+from-within zero p s = []
+from-within (suc m) p s = from-a-word m (word-of p (run other s)) (past other s)
 
 -- the readings that are left
 unfoldable pub left : ℕ → Phase → List ℕ → List ℤ
 left m Between s = readings m s
-left m Minus s = within m Minus s
-left m (Number negative n) s = within m (Number negative n) s
+left m Minus s = from-within m Minus s
+left m (Number negative n) s = from-within m (Number negative n) s
 left m Over s = []
 
 -- the readings zs are stored in the numbers l after the k that stand there

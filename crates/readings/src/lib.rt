@@ -4,7 +4,7 @@ ghost use mathlib.Core.Bool.{true};
 ghost use mathlib.Core.List.{List, [], _∷_, _++_};
 ghost use Prim.Native.Nat.{ℕ};
 ghost use lib.IntN.{ℤ};
-ghost use Rattle.readings.specs.Readings.{in-range, signed, number};
+ghost use Rattle.readings.specs.Readings.{in-signed-range, signed, number-in-range};
 ghost use Rattle.readings.specs.Rest.{takes, over};
 ghost use Rattle.readings.specs.Steps.{digit-more, word-more, stored, ended};
 ghost use Rattle.readings.specs.Taken.{taken-in};
@@ -24,7 +24,7 @@ pub struct Reader {
 }
 
 fn is_in_range(negative: bool, n: u64) -> bool
-    ensures { λ r. ⌜ r ≡ in-range negative n ⌝ }
+    ensures { λ r. ⌜ r ≡ in-signed-range negative n ⌝ }
 {
     if negative {
         return n <= 2147483648;
@@ -33,7 +33,7 @@ fn is_in_range(negative: bool, n: u64) -> bool
 }
 
 fn signed(negative: bool, n: u64) -> i32
-    requires { ⌜ in-range negative n ≡ true ⌝ }
+    requires { ⌜ in-signed-range negative n ≡ true ⌝ }
     ensures { λ r. ⌜ r ≡ signed negative n ⌝ }
 {
     if negative {
@@ -73,7 +73,7 @@ fn word_more(phase: Phase, b: u8) -> Phase
 
 // A number is stored if it is in range and there is room; else the readings are over.
 fn store(negative: bool, n: u64, count: usize, numbers: &mut [i32]) -> Reader
-    ensures { λ r. ⌜ record { reader = r; numbers = now (numbers .exit) } ≡ stored (number negative n) count (now (numbers .entry)) ⌝ }
+    ensures { λ r. ⌜ record { reader = r; numbers = now (numbers .exit) } ≡ stored (number-in-range negative n) count (now (numbers .entry)) ⌝ }
 {
     if !is_in_range(negative, n) {
         return Reader {

@@ -10,7 +10,7 @@ use Rattle.base.specs.declared.Refusal.{Refusal}
 use Rattle.base.specs.declared.Refusal.the-variants.{TooLong, NoLexeme, TooLarge, NoProgram, TooDeep, Undeclared, TooManyDeclared, TooMuchCode}
 use Rattle.lines.specs.Lines.{counted}
 use Rattle.lines.proofs.Short.{Small, short-natural}
-use Rattle.words.specs.Words.{no-lexeme, too-large, cannot-stand, why, how-later, how}
+use Rattle.words.specs.Words.{no-lexeme, lexeme-too-large, cannot-stand, too-long, too-deep, undeclared, too-many-declared, too-much-code, why, how-from-6, how-from-4, how-from-2, how}
 use Rattle.words.specs.declared.Numbers.{Numbers}
 
 Brief : List ℕ → Type 0
@@ -42,15 +42,15 @@ short-cannot-stand true = omega arith
 short-cannot-stand false = omega arith
 
 module _ (n : Numbers) (fit : Fit n) where
-  short-too-large : (b : ℕ) → Brief (too-large n b)
-  unfolding too-large counted bytes bytes-from Brief
+  short-too-large : (b : ℕ) → Brief (lexeme-too-large n b)
+  unfolding lexeme-too-large counted bytes bytes-from Brief
   short-too-large b =
       either (eqb b 34) _ _ (simp length-append (omega (arith, short-natural (n .string) (fit .string))))
       (either (digit b) _ _ (simp length-append (omega (arith, short-natural (n .literal) (fit .literal))))
       (simp length-append (omega (arith, short-natural (n .word) (fit .word)))))
 
   pub short-why : (text : List ℕ) (refusal : Refusal) (place : ℕ) → length (why n text refusal place) ≤ 160
-  unfolding why counted bytes bytes-from Brief
+  unfolding why too-long too-deep undeclared too-many-declared too-much-code counted bytes bytes-from Brief
   short-why text TooLong place = simp length-append (omega (arith, short-natural (n .text) (fit .text)))
   short-why text NoLexeme place = short-no-lexeme _
   short-why text TooLarge place = short-too-large _
@@ -60,20 +60,18 @@ module _ (n : Numbers) (fit : Fit n) where
   short-why text TooManyDeclared place = simp length-append (omega (arith, short-natural (n .declarations) (fit .declarations)))
   short-why text TooMuchCode place = simp length-append (omega (arith, short-natural (n .instructions) (fit .instructions)))
 
-  short-how-later : (ending : ℕ) → Brief (how-later n ending)
-  unfolding how-later counted bytes bytes-from Brief
-  short-how-later ending =
-      either (eqb ending 5) _ _ (omega arith)
-      (either (eqb ending 6) _ _ (omega arith)
-      (either (eqb ending 7) _ _ (simp length-append (omega (arith, short-natural (n .room) (fit .room))))
-      (omega arith)))
+  short-how-from-6 : (ending : ℕ) → Brief (how-from-6 n ending)
+  unfolding how-from-6 counted bytes bytes-from Brief
+  short-how-from-6 ending = either (eqb ending 6) _ _ (omega arith) (either (eqb ending 7) _ _ (simp length-append (omega (arith, short-natural (n .room) (fit .room)))) (omega arith))
+
+  short-how-from-4 : (ending : ℕ) → Brief (how-from-4 n ending)
+  unfolding how-from-4 bytes bytes-from Brief
+  short-how-from-4 ending = either (eqb ending 4) _ _ (omega arith) (either (eqb ending 5) _ _ (omega arith) (short-how-from-6 ending))
+
+  short-how-from-2 : (ending : ℕ) → Brief (how-from-2 n ending)
+  unfolding how-from-2 counted bytes bytes-from Brief
+  short-how-from-2 ending = either (eqb ending 2) _ _ (simp length-append (omega (arith, short-natural (n .budget) (fit .budget)))) (either (eqb ending 3) _ _ (omega arith) (short-how-from-4 ending))
 
   pub short-how : (ending : ℕ) → length (how n ending) ≤ 160
-  unfolding how counted bytes bytes-from Brief
-  short-how ending =
-      either (eqb ending 0) _ _ (omega arith)
-      (either (eqb ending 1) _ _ (omega arith)
-      (either (eqb ending 2) _ _ (simp length-append (omega (arith, short-natural (n .budget) (fit .budget))))
-      (either (eqb ending 3) _ _ (omega arith)
-      (either (eqb ending 4) _ _ (omega arith)
-      (short-how-later ending)))))
+  unfolding how bytes bytes-from Brief
+  short-how ending = either (eqb ending 0) _ _ (omega arith) (either (eqb ending 1) _ _ (omega arith) (short-how-from-2 ending))

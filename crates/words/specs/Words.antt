@@ -23,8 +23,8 @@ no-lexeme b =
     (bytes "O does not use this character."))))
 
 -- too large: likewise
-unfoldable pub too-large : Numbers → ℕ → List ℕ
-too-large n b =
+unfoldable pub lexeme-too-large : Numbers → ℕ → List ℕ
+lexeme-too-large n b =
     cond (eqb b (code "\"")) (counted "This string has more than " (n .string) ++ bytes " bytes between its quotes. Print it in parts.")
     (cond (digit b) (counted "This number is larger than " (n .literal) ++ bytes ", the largest there is.")
     (counted "This word has more than " (n .word) ++ bytes " letters. Choose a shorter one."))
@@ -34,30 +34,54 @@ unfoldable pub cannot-stand : Bool → List ℕ
 cannot-stand true = bytes "The text ends here, and the program is not finished. Is a } or a command missing?"
 cannot-stand false = bytes "This cannot stand here. Read the sentence aloud up to the mark: what should follow?"
 
+-- the others: by the most that there may be
+unfoldable pub too-long : ℕ → List ℕ
+too-long most = counted "The text is longer than " most ++ bytes " bytes. Make it shorter."
+
+unfoldable pub too-deep : ℕ → List ℕ
+too-deep most = counted "This is too deep: of ( { IF WHILE NOT only " most ++ bytes " may be open at once. Split the sentence."
+
+unfoldable pub undeclared : List ℕ
+undeclared = bytes "This name is not declared here. Write INT and the name before it, in this block or in one around it."
+
+unfoldable pub too-many-declared : ℕ → List ℕ
+too-many-declared most = counted "This is one declaration too many: a text may have " most ++ bytes ". Use fewer variables."
+
+unfoldable pub too-much-code : ℕ → List ℕ
+too-much-code most = counted "The program is too long: its code may have " most ++ bytes " instructions. Make it shorter."
+
 unfoldable pub why : Numbers → List ℕ → Refusal → ℕ → List ℕ
-why n text TooLong place = counted "The text is longer than " (n .text) ++ bytes " bytes. Make it shorter."
+why n text TooLong place = too-long (n .text)
 why n text NoLexeme place = no-lexeme (getD text place 0)
-why n text TooLarge place = too-large n (getD text place 0)
+why n text TooLarge place = lexeme-too-large n (getD text place 0)
 why n text NoProgram place = cannot-stand (leb (length text) place)
-why n text TooDeep place = counted "This is too deep: of ( { IF WHILE NOT only " (n .nesting) ++ bytes " may be open at once. Split the sentence."
-why n text Undeclared place = bytes "This name is not declared here. Write INT and the name before it, in this block or in one around it."
-why n text TooManyDeclared place = counted "This is one declaration too many: a text may have " (n .declarations) ++ bytes ". Use fewer variables."
-why n text TooMuchCode place = counted "The program is too long: its code may have " (n .instructions) ++ bytes " instructions. Make it shorter."
+why n text TooDeep place = too-deep (n .nesting)
+why n text Undeclared place = undeclared
+why n text TooManyDeclared place = too-many-declared (n .declarations)
+why n text TooMuchCode place = too-much-code (n .instructions)
 
 -- ---- how a run ended
 
-unfoldable pub how-later : Numbers → ℕ → List ℕ
-how-later n ending =
-    cond (eqb ending 5) (bytes "It divided by 0. Test for 0 before you divide.")
-    (cond (eqb ending 6) (bytes "The stack was full.")
+unfoldable pub how-from-6 : Numbers → ℕ → List ℕ
+how-from-6 n ending =
+    cond (eqb ending 6) (bytes "The stack was full.")
     (cond (eqb ending 7) (counted "The output does not fit its " (n .room) ++ bytes " bytes. Print less.")
-    (bytes "The code was bad.")))
+    (bytes "The code was bad."))
+
+unfoldable pub how-from-4 : Numbers → ℕ → List ℕ
+how-from-4 n ending =
+    cond (eqb ending 4) (bytes "A result was outside -2147483648 to 2147483647. Which sum or product grows so large?")
+    (cond (eqb ending 5) (bytes "It divided by 0. Test for 0 before you divide.")
+    (how-from-6 n ending))
+
+unfoldable pub how-from-2 : Numbers → ℕ → List ℕ
+how-from-2 n ending =
+    cond (eqb ending 2) (counted "It used up its " (n .budget) ++ bytes " steps. Is there a WHILE whose condition stays true?")
+    (cond (eqb ending 3) (bytes "READ found no reading left. Give it more readings, or read fewer.")
+    (how-from-4 n ending))
 
 unfoldable pub how : Numbers → ℕ → List ℕ
 how n ending =
     cond (eqb ending 0) (bytes "It came to its end. What it printed may be sent on.")
     (cond (eqb ending 1) (bytes "It met ERROR: the program itself says that something is wrong.")
-    (cond (eqb ending 2) (counted "It used up its " (n .budget) ++ bytes " steps. Is there a WHILE whose condition stays true?")
-    (cond (eqb ending 3) (bytes "READ found no reading left. Give it more readings, or read fewer.")
-    (cond (eqb ending 4) (bytes "A result was outside -2147483648 to 2147483647. Which sum or product grows so large?")
-    (how-later n ending)))))
+    (how-from-2 n ending))

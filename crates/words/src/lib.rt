@@ -5,7 +5,7 @@ ghost use lib.IntN.{pos};
 ghost use lib.ListN.{getD};
 ghost use Rattle.instruction.specs.Numbers.{decimal};
 ghost use Rattle.lines.specs.Added.{Added};
-ghost use Rattle.words.specs.Words.{no-lexeme, too-large, cannot-stand, why, how-later, how};
+ghost use Rattle.words.specs.Words.{no-lexeme, lexeme-too-large, cannot-stand, too-long, too-deep, undeclared, too-many-declared, too-much-code, why, how-from-6, how-from-4, how-from-2, how};
 use base::Refusal;
 use base::Such;
 use limits::Limits;
@@ -82,7 +82,7 @@ fn put_no_lexeme(page: &mut [u8], at: usize, b: u8) -> usize
 }
 
 fn put_too_large(page: &mut [u8], at: usize, n: Numbers, b: u8) -> usize
-    ensures { λ r. ⌜ Added (too-large n b) (now (page .entry)) at (now (page .exit)) r ⌝ }
+    ensures { λ r. ⌜ Added (lexeme-too-large n b) (now (page .entry)) at (now (page .exit)) r ⌝ }
 {
     if b == b'"' {
         return around(
@@ -138,6 +138,64 @@ fn byte_at(text: &[u8], place: usize) -> u8
     0
 }
 
+fn put_too_long(page: &mut [u8], at: usize, most: usize) -> usize
+    ensures { λ r. ⌜ Added (too-long most) (now (page .entry)) at (now (page .exit)) r ⌝ }
+{
+    around(
+        page,
+        at,
+        b"The text is longer than ",
+        most as u64,
+        b" bytes. Make it shorter.",
+    )
+}
+
+fn put_too_deep(page: &mut [u8], at: usize, most: usize) -> usize
+    ensures { λ r. ⌜ Added (too-deep most) (now (page .entry)) at (now (page .exit)) r ⌝ }
+{
+    around(
+        page,
+        at,
+        b"This is too deep: of ( { IF WHILE NOT only ",
+        most as u64,
+        b" may be open at once. Split the sentence.",
+    )
+}
+
+fn put_too_many(page: &mut [u8], at: usize, most: usize) -> usize
+    ensures { λ r. ⌜ Added (too-many-declared most) (now (page .entry)) at (now (page .exit)) r ⌝ }
+{
+    around(
+        page,
+        at,
+        b"This is one declaration too many: a text may have ",
+        most as u64,
+        b". Use fewer variables.",
+    )
+}
+
+fn put_too_much(page: &mut [u8], at: usize, most: usize) -> usize
+    ensures { λ r. ⌜ Added (too-much-code most) (now (page .entry)) at (now (page .exit)) r ⌝ }
+{
+    around(
+        page,
+        at,
+        b"The program is too long: its code may have ",
+        most as u64,
+        b" instructions. Make it shorter.",
+    )
+}
+
+fn put_undeclared(page: &mut [u8], at: usize) -> usize
+    ensures { λ r. ⌜ Added undeclared (now (page .entry)) at (now (page .exit)) r ⌝ }
+{
+    lines::put(
+        page,
+        at,
+        b"This name is not declared here. Write INT and the name before it, in this block or in one around it.",
+    )
+}
+
 // Why a text is refused.
 pub fn put_why(
     page: &mut [u8],
@@ -150,51 +208,20 @@ pub fn put_why(
     ensures { λ r. ⌜ Added (why n (now (text .entry)) refusal place) (now (page .entry)) at (now (page .exit)) r ⌝ }
 {
     match refusal {
-        Refusal::TooLong => around(
-            page,
-            at,
-            b"The text is longer than ",
-            n.text as u64,
-            b" bytes. Make it shorter.",
-        ),
+        Refusal::TooLong => put_too_long(page, at, n.text),
         Refusal::NoLexeme => put_no_lexeme(page, at, byte_at(text, place)),
         Refusal::TooLarge => put_too_large(page, at, n, byte_at(text, place)),
         Refusal::NoProgram => put_cannot_stand(page, at, text.len() <= place),
-        Refusal::TooDeep => around(
-            page,
-            at,
-            b"This is too deep: of ( { IF WHILE NOT only ",
-            n.nesting as u64,
-            b" may be open at once. Split the sentence.",
-        ),
-        Refusal::Undeclared => lines::put(
-            page,
-            at,
-            b"This name is not declared here. Write INT and the name before it, in this block or in one around it.",
-        ),
-        Refusal::TooManyDeclared => around(
-            page,
-            at,
-            b"This is one declaration too many: a text may have ",
-            n.declarations as u64,
-            b". Use fewer variables.",
-        ),
-        Refusal::TooMuchCode => around(
-            page,
-            at,
-            b"The program is too long: its code may have ",
-            n.instructions as u64,
-            b" instructions. Make it shorter.",
-        ),
+        Refusal::TooDeep => put_too_deep(page, at, n.nesting),
+        Refusal::Undeclared => put_undeclared(page, at),
+        Refusal::TooManyDeclared => put_too_many(page, at, n.declarations),
+        Refusal::TooMuchCode => put_too_much(page, at, n.instructions),
     }
 }
 
-fn put_how_later(page: &mut [u8], at: usize, n: Numbers, ending: u8) -> usize
-    ensures { λ r. ⌜ Added (how-later n ending) (now (page .entry)) at (now (page .exit)) r ⌝ }
+fn put_how_from_6(page: &mut [u8], at: usize, n: Numbers, ending: u8) -> usize
+    ensures { λ r. ⌜ Added (how-from-6 n ending) (now (page .entry)) at (now (page .exit)) r ⌝ }
 {
-    if ending == 5 {
-        return lines::put(page, at, b"It divided by 0. Test for 0 before you divide.");
-    }
     if ending == 6 {
         return lines::put(page, at, b"The stack was full.");
     }
@@ -208,6 +235,44 @@ fn put_how_later(page: &mut [u8], at: usize, n: Numbers, ending: u8) -> usize
         );
     }
     lines::put(page, at, b"The code was bad.")
+}
+
+fn put_how_from_4(page: &mut [u8], at: usize, n: Numbers, ending: u8) -> usize
+    ensures { λ r. ⌜ Added (how-from-4 n ending) (now (page .entry)) at (now (page .exit)) r ⌝ }
+{
+    if ending == 4 {
+        return lines::put(
+            page,
+            at,
+            b"A result was outside -2147483648 to 2147483647. Which sum or product grows so large?",
+        );
+    }
+    if ending == 5 {
+        return lines::put(page, at, b"It divided by 0. Test for 0 before you divide.");
+    }
+    put_how_from_6(page, at, n, ending)
+}
+
+fn put_how_from_2(page: &mut [u8], at: usize, n: Numbers, ending: u8) -> usize
+    ensures { λ r. ⌜ Added (how-from-2 n ending) (now (page .entry)) at (now (page .exit)) r ⌝ }
+{
+    if ending == 2 {
+        return around(
+            page,
+            at,
+            b"It used up its ",
+            n.budget as u64,
+            b" steps. Is there a WHILE whose condition stays true?",
+        );
+    }
+    if ending == 3 {
+        return lines::put(
+            page,
+            at,
+            b"READ found no reading left. Give it more readings, or read fewer.",
+        );
+    }
+    put_how_from_4(page, at, n, ending)
 }
 
 // How a run ended.
@@ -228,28 +293,5 @@ pub fn put_how(page: &mut [u8], at: usize, n: Numbers, ending: u8) -> usize
             b"It met ERROR: the program itself says that something is wrong.",
         );
     }
-    if ending == 2 {
-        return around(
-            page,
-            at,
-            b"It used up its ",
-            n.budget as u64,
-            b" steps. Is there a WHILE whose condition stays true?",
-        );
-    }
-    if ending == 3 {
-        return lines::put(
-            page,
-            at,
-            b"READ found no reading left. Give it more readings, or read fewer.",
-        );
-    }
-    if ending == 4 {
-        return lines::put(
-            page,
-            at,
-            b"A result was outside -2147483648 to 2147483647. Which sum or product grows so large?",
-        );
-    }
-    put_how_later(page, at, n, ending)
+    put_how_from_2(page, at, n, ending)
 }

@@ -6,27 +6,18 @@ use borrow.Author.Needs.{needs}
 use Rattle.lessons.proofs.run.Statement.{statement}
 use Rattle.lessons.proofs.run.Tie as tie
 
-station-requires : tie.Need-station-requires
-station-requires c κs = search needs
-
 array-share-prefix-page : tie.Need-array-share-prefix-page
 array-share-prefix-page c = on-page (c .station .ensures .says)
 
 slice-aggregate-write-all : tie.Need-slice-aggregate-write-all
-slice-aggregate-write-all c = sym (length-take-le _ _ (on-page (c .before .station .ensures .says)))
-
-write-all-requires : tie.Need-write-all-requires
-write-all-requires c κs = search needs
-
-returns : tie.Need-returns
-returns c = search needs
+slice-aggregate-write-all c = sym (length-take-le _ _ (array-share-prefix-page (c .before)))
 
 pub run-spec : {M : Type 1} → statement M
 run-spec =
     tie.close
     (tie.spec
-    station-requires
+    (λ c κs. search needs)
     array-share-prefix-page
     slice-aggregate-write-all
-    write-all-requires
-    returns)
+    (λ c κs. search needs)
+    (λ c. search needs))

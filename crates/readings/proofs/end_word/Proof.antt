@@ -3,7 +3,7 @@ use mathlib.Core.Path.{_≡_, refl}
 use mathlib.Core.List.{List}
 use denote.Ref.{now}
 use lib.IntN.{ℤ}
-use Rattle.readings.specs.Steps.{held, ended, ended-at}
+use Rattle.readings.specs.Steps.{both, ended, ended-at}
 use Rattle.readings.specs.declared.Phase.{Phase}
 use Rattle.readings.specs.declared.Phase.the-variants.{Between, Over}
 use Rattle.readings.specs.declared.Reader.{Reader}
@@ -12,7 +12,7 @@ use Rattle.readings.proofs.end_word.Statement.{statement}
 use Rattle.readings.proofs.end_word.Tie as tie
 
 -- the end of a word in a phase that stays
-stays : (r : Reader) (l : List ℤ) (q : Phase) → r .phase ≡ q → held q (r .count) l ≡ ended-at q (r .count) l → record { reader = r; numbers = l } ≡ ended (record { reader = r; numbers = l })
+stays : (r : Reader) (l : List ℤ) (q : Phase) → r .phase ≡ q → both q (r .count) l ≡ ended-at q (r .count) l → record { reader = r; numbers = l } ≡ ended (record { reader = r; numbers = l })
 unfolding ended
 stays r l q e same = rw (← e) at same
 

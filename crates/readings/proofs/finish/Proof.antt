@@ -1,13 +1,13 @@
 -- `readings::finish` meets its contract. Assumes nothing.
 use mathlib.Core.Path.{ap, _∙_}
-use Rattle.readings.specs.Steps.{Held}
+use Rattle.readings.specs.Steps.{Both}
 use Rattle.readings.specs.Taken.{Taken}
 use Rattle.readings.proofs.Takes.{at-end}
 use borrow.Author.Needs.{needs}
 use Rattle.readings.proofs.finish.Statement.{statement}
 use Rattle.readings.proofs.finish.Tie as tie
 
-counted : Held → Taken
+counted : Both → Taken
 counted h = record { count = h .reader .count; numbers = h .numbers }
 
 returns : tie.Need-returns

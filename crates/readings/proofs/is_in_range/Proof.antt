@@ -1,15 +1,15 @@
 -- `readings::is_in_range` meets its contract. Assumes nothing.
 use mathlib.Core.Path.{refl}
-use Rattle.readings.specs.Readings.{in-range}
+use Rattle.readings.specs.Readings.{in-signed-range}
 use Rattle.readings.proofs.is_in_range.Statement.{statement}
 use Rattle.readings.proofs.is_in_range.Tie as tie
 
 returns : tie.Need-returns
-unfolding in-range
+unfolding in-signed-range
 returns c = rw (c .if1 .taken) refl
 
 returns-2 : tie.Need-returns-2
-unfolding in-range
+unfolding in-signed-range
 returns-2 c = rw (c .if1 .left) refl
 
 pub is-in-range-spec : {M : Type 1} → statement M

@@ -13,26 +13,8 @@ Inv-loop chunk times numbers₀ reader₀ i₀ numbers reader i = length numbers
 abbrev μ-loop : tie.MeasureT-loop
 μ-loop chunk times numbers₀ reader₀ i₀ numbers reader i = times - i
 
-loop-holds : tie.Need-loop-holds Inv-loop μ-loop
-loop-holds c = refl
-
-more-requires : tie.Need-more-requires Inv-loop μ-loop
-more-requires c κs = search needs
-
-add-i : tie.Need-add-i Inv-loop μ-loop
-add-i c = omega arith
-
-loop-less : tie.Need-loop-less Inv-loop μ-loop
-loop-less c = omega arith
-
-loop-again : tie.Need-loop-again Inv-loop μ-loop
-loop-again c = search needs
-
 same-length : tie.Need-same-length Inv-loop μ-loop
 same-length c = c .before .loop .inv
-
-returns : tie.Need-returns Inv-loop μ-loop
-returns c = search needs
 
 pub again-spec : {M : Type 1} → statement M
 again-spec =
@@ -40,10 +22,10 @@ again-spec =
     (tie.spec
     Inv-loop
     μ-loop
-    loop-holds
-    more-requires
-    add-i
-    loop-less
-    loop-again
+    (λ c. refl)
+    (λ c κs. search needs)
+    (λ c. omega arith)
+    (λ c. omega arith)
+    (λ c. search needs)
     same-length
-    returns)
+    (λ c. search needs))

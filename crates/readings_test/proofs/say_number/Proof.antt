@@ -31,12 +31,6 @@ not-below : (z : ℤ) → ltZ z (pos 0) ≡ false → T (nonNeg z)
 not-below (pos n) e = tt
 not-below (negsuc n) e = let z : _≡_ {A = ℕ} 0 1 = cc in absurd (omega arith)
 
-slice-aggregate-say : tie.Need-slice-aggregate-say
-slice-aggregate-say c = search needs
-
-say-requires : tie.Need-say-requires
-say-requires c κs = search needs
-
 cast-print-decimal : tie.Need-cast-print-decimal
 cast-print-decimal c = rw (toZ-ofZ (c .before .before .before .fits .z)) (sfits-widen tt (c .before .before .before .fits .z))
 
@@ -46,32 +40,20 @@ sub-print-decimal c = rw (back (c .before .before .before .fits .z), +ℤ-idl (n
 cast-print-decimal-2 : tie.Need-cast-print-decimal-2
 cast-print-decimal-2 c = rw (back (c .before .before .before .fits .z), +ℤ-idl (negℤ (c .before .before .before .args .z)), toZ-ofZ (negated (c .before .before .before .args .z) (c .before .before .before .fits .z))) (below (c .before .before .before .args .z) (c .before .before .before .fits .z) (rw (toZ-ofZ (c .before .before .before .fits .z)) at (c .before .before .if1 .taken)))
 
-print-decimal-requires : tie.Need-print-decimal-requires
-print-decimal-requires c κs = search needs
-
-returns : tie.Need-returns
-returns c = search needs
-
 cast-print-decimal-3 : tie.Need-cast-print-decimal-3
 cast-print-decimal-3 c = rw (toZ-ofZ (c .before .fits .z)) (not-below (c .before .args .z) (rw (toZ-ofZ (c .before .fits .z)) at (c .if1 .left)), fits-natAbs tt (c .before .fits .z))
-
-print-decimal-requires-2 : tie.Need-print-decimal-requires-2
-print-decimal-requires-2 c κs = search needs
-
-returns-2 : tie.Need-returns-2
-returns-2 c = search needs
 
 pub say-number-spec : {M : Type 1} → statement M
 say-number-spec =
     tie.close
     (tie.spec
-    slice-aggregate-say
-    say-requires
+    (λ c. search needs)
+    (λ c κs. search needs)
     cast-print-decimal
     sub-print-decimal
     cast-print-decimal-2
-    print-decimal-requires
-    returns
+    (λ c κs. search needs)
+    (λ c. search needs)
     cast-print-decimal-3
-    print-decimal-requires-2
-    returns-2)
+    (λ c κs. search needs)
+    (λ c. search needs))

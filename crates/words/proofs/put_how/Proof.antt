@@ -1,35 +1,22 @@
 -- `words::put_how` meets its contract. Assumes nothing.
 use borrow.Author.Tests.{eq-eqb, ne-eqb}
 use Rattle.base.specs.Bytes.{bytes, bytes-from}
-use Rattle.lines.specs.Lines.{counted}
 use Rattle.words.specs.Words.{how}
 use borrow.Author.Needs.{needs}
 use Rattle.words.proofs.put_how.Statement.{statement}
 use Rattle.words.proofs.put_how.Tie as tie
 
 returns : tie.Need-returns
-unfolding how counted bytes bytes-from
+unfolding how bytes bytes-from
 returns c = rw (eq-eqb (c .before .before .before .before .before .before .before .args .ending) 0 (c .before .before .before .before .before .if1 .taken)) (c .before .before .put .ensures)
 
 returns-2 : tie.Need-returns-2
-unfolding how counted bytes bytes-from
+unfolding how bytes bytes-from
 returns-2 c = rw (ne-eqb (c .before .before .before .before .before .before .before .before .args .ending) 0 (c .before .before .before .before .before .before .if1 .left), eq-eqb (c .before .before .before .before .before .before .before .before .args .ending) 1 (c .before .before .before .before .before .if2 .taken)) (c .before .before .put2 .ensures)
 
 returns-3 : tie.Need-returns-3
-unfolding how counted bytes bytes-from
-returns-3 c = rw (ne-eqb (c .before .before .before .before .before .before .before .before .before .before .before .args .ending) 0 (c .before .before .before .before .before .before .before .before .before .if1 .left), ne-eqb (c .before .before .before .before .before .before .before .before .before .before .before .args .ending) 1 (c .before .before .before .before .before .before .before .before .if2 .left), eq-eqb (c .before .before .before .before .before .before .before .before .before .before .before .args .ending) 2 (c .before .before .before .before .before .before .before .if3 .taken)) (c .before .before .around .ensures)
-
-returns-4 : tie.Need-returns-4
-unfolding how counted bytes bytes-from
-returns-4 c = rw (ne-eqb (c .before .before .before .before .before .before .before .before .before .before .args .ending) 0 (c .before .before .before .before .before .before .before .before .if1 .left), ne-eqb (c .before .before .before .before .before .before .before .before .before .before .args .ending) 1 (c .before .before .before .before .before .before .before .if2 .left), ne-eqb (c .before .before .before .before .before .before .before .before .before .before .args .ending) 2 (c .before .before .before .before .before .before .if3 .left), eq-eqb (c .before .before .before .before .before .before .before .before .before .before .args .ending) 3 (c .before .before .before .before .before .if4 .taken)) (c .before .before .put3 .ensures)
-
-returns-5 : tie.Need-returns-5
-unfolding how counted bytes bytes-from
-returns-5 c = rw (ne-eqb (c .before .before .before .before .before .before .before .before .before .before .before .args .ending) 0 (c .before .before .before .before .before .before .before .before .before .if1 .left), ne-eqb (c .before .before .before .before .before .before .before .before .before .before .before .args .ending) 1 (c .before .before .before .before .before .before .before .before .if2 .left), ne-eqb (c .before .before .before .before .before .before .before .before .before .before .before .args .ending) 2 (c .before .before .before .before .before .before .before .if3 .left), ne-eqb (c .before .before .before .before .before .before .before .before .before .before .before .args .ending) 3 (c .before .before .before .before .before .before .if4 .left), eq-eqb (c .before .before .before .before .before .before .before .before .before .before .before .args .ending) 4 (c .before .before .before .before .before .if5 .taken)) (c .before .before .put4 .ensures)
-
-returns-6 : tie.Need-returns-6
-unfolding how counted bytes bytes-from
-returns-6 c = rw (ne-eqb (c .before .before .before .before .before .before .before .before .before .before .args .ending) 0 (c .before .before .before .before .before .before .before .before .if1 .left), ne-eqb (c .before .before .before .before .before .before .before .before .before .before .args .ending) 1 (c .before .before .before .before .before .before .before .if2 .left), ne-eqb (c .before .before .before .before .before .before .before .before .before .before .args .ending) 2 (c .before .before .before .before .before .before .if3 .left), ne-eqb (c .before .before .before .before .before .before .before .before .before .before .args .ending) 3 (c .before .before .before .before .before .if4 .left), ne-eqb (c .before .before .before .before .before .before .before .before .before .before .args .ending) 4 (c .before .before .before .before .if5 .left)) (c .before .before .put-how-later .ensures)
+unfolding how bytes bytes-from
+returns-3 c = rw (ne-eqb (c .before .before .before .before .before .before .before .args .ending) 0 (c .before .before .before .before .before .if1 .left), ne-eqb (c .before .before .before .before .before .before .before .args .ending) 1 (c .before .before .before .before .if2 .left)) (c .before .before .put-how-from-2 .ensures)
 
 pub put-how-spec : {M : Type 1} → statement M
 put-how-spec =
@@ -43,20 +30,6 @@ put-how-spec =
     (λ c κs. search needs)
     (λ c. search needs)
     returns-2
-    (λ c. search needs)
-    (λ c. search needs)
-    (λ c. search needs)
     (λ c κs. search needs)
     (λ c. search needs)
-    returns-3
-    (λ c. search needs)
-    (λ c κs. search needs)
-    (λ c. search needs)
-    returns-4
-    (λ c. search needs)
-    (λ c κs. search needs)
-    (λ c. search needs)
-    returns-5
-    (λ c κs. search needs)
-    (λ c. search needs)
-    returns-6)
+    returns-3)

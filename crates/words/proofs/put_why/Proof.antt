@@ -1,14 +1,12 @@
 -- `words::put_why` meets its contract. Assumes nothing.
-use Rattle.base.specs.Bytes.{bytes, bytes-from}
-use Rattle.lines.specs.Lines.{counted}
 use Rattle.words.specs.Words.{why}
 use borrow.Author.Needs.{needs}
 use Rattle.words.proofs.put_why.Statement.{statement}
 use Rattle.words.proofs.put_why.Tie as tie
 
 returns : tie.Need-returns
-unfolding why counted bytes bytes-from
-returns c = rw (c .before .before .before .before .before .before .enum-told .given .1) (c .before .before .around .ensures)
+unfolding why
+returns c = rw (c .before .before .before .before .enum-told .given .1) (c .before .before .put-too-long .ensures)
 
 returns-2 : tie.Need-returns-2
 unfolding why
@@ -23,28 +21,26 @@ unfolding why
 returns-4 c = rw (c .before .before .before .before .enum-told4 .given .1) (c .before .before .put-cannot-stand .ensures)
 
 returns-5 : tie.Need-returns-5
-unfolding why counted bytes bytes-from
-returns-5 c = rw (c .before .before .before .before .before .before .enum-told5 .given .1) (c .before .before .around2 .ensures)
+unfolding why
+returns-5 c = rw (c .before .before .before .before .enum-told5 .given .1) (c .before .before .put-too-deep .ensures)
 
 returns-6 : tie.Need-returns-6
-unfolding why bytes bytes-from
-returns-6 c = rw (c .before .before .before .before .before .enum-told6 .given .1) (c .before .before .put .ensures)
+unfolding why
+returns-6 c = rw (c .before .before .before .before .enum-told6 .given .1) (c .before .before .put-undeclared .ensures)
 
 returns-7 : tie.Need-returns-7
-unfolding why counted bytes bytes-from
-returns-7 c = rw (c .before .before .before .before .before .before .enum-told7 .given .1) (c .before .before .around3 .ensures)
+unfolding why
+returns-7 c = rw (c .before .before .before .before .enum-told7 .given .1) (c .before .before .put-too-many .ensures)
 
 returns-8 : tie.Need-returns-8
-unfolding why counted bytes bytes-from
-returns-8 c = rw (c .before .before .before .before .before .before .enum-told8 .given .1) (c .before .before .around4 .ensures)
+unfolding why
+returns-8 c = rw (c .before .before .before .before .enum-told8 .given .1) (c .before .before .put-too-much .ensures)
 
 pub put-why-spec : {M : Type 1} → statement M
 put-why-spec =
     tie.close
     (tie.spec
     (λ c. search needs)
-    (λ c. search needs)
-    (λ c. search needs)
     (λ c κs. search needs)
     (λ c. search needs)
     (λ c κs. search needs)
@@ -55,18 +51,11 @@ put-why-spec =
     (λ c. search needs)
     (λ c κs. search needs)
     (λ c. search needs)
-    (λ c. search needs)
+    (λ c κs. search needs)
     (λ c. search needs)
     (λ c κs. search needs)
     (λ c. search needs)
-    (λ c. search needs)
     (λ c κs. search needs)
-    (λ c. search needs)
-    (λ c. search needs)
-    (λ c. search needs)
-    (λ c κs. search needs)
-    (λ c. search needs)
-    (λ c. search needs)
     (λ c. search needs)
     (λ c κs. search needs)
     (λ c. search needs)

@@ -5,14 +5,13 @@ use borrow.Author.Needs.{needs}
 use Rattle.machine_test.proofs.scan.natural.Statement.{statement}
 use Rattle.machine_test.proofs.scan.natural.Tie as tie
 
-returns : tie.Need-returns
-returns c = search needs
-
 cast-result : tie.Need-cast-result
 cast-result c = rw (toZ-ofZ (c .before .fits .n)) (not-below (c .before .args .n) (rw (toZ-ofZ (c .before .fits .n)) at (c .if1 .left)), fits-natAbs tt (c .before .fits .n))
 
-returns-2 : tie.Need-returns-2
-returns-2 c = search needs
-
 pub natural-spec : {M : Type 1} → statement M
-natural-spec = tie.close (tie.spec returns cast-result returns-2)
+natural-spec =
+    tie.close
+    (tie.spec
+    (λ c. search needs)
+    cast-result
+    (λ c. search needs))

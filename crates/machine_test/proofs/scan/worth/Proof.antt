@@ -11,26 +11,18 @@ use borrow.Author.Needs.{needs}
 use Rattle.machine_test.proofs.scan.worth.Statement.{statement}
 use Rattle.machine_test.proofs.scan.worth.Tie as tie
 
-cast-z : tie.Need-cast-z
-cast-z c = search needs
-
 sub-small : tie.Need-sub-small
 sub-small c = let v = c .before .before .args .c .value in
     let h : c .before .before .args .c .value < 4294967296 = omega arith in
     rw (toZ-pos w64 {n = v} (lt-trans h (lit< tt)), +ℤ-idl (negℤ (pos v))) (record { sfits = small-negate (pos v) 4294967296 9223372036854775808 h (lit< tt) })
 
-small-requires : tie.Need-small-requires
-small-requires c κs = search needs
-
-returns : tie.Need-returns
-returns c = search needs
-
-small-requires-2 : tie.Need-small-requires-2
-small-requires-2 c κs = search needs
-
-returns-2 : tie.Need-returns-2
-returns-2 c = search needs
-
 pub worth-spec : {M : Type 1} → statement M
 worth-spec =
-    tie.close (tie.spec cast-z sub-small small-requires returns small-requires-2 returns-2)
+    tie.close
+    (tie.spec
+    (λ c. search needs)
+    sub-small
+    (λ c κs. search needs)
+    (λ c. search needs)
+    (λ c κs. search needs)
+    (λ c. search needs))

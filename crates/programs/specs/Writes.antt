@@ -20,7 +20,7 @@ pub record Given : Type 0 where
   pub budget : ℕ
 
 -- what is said stands first on each page, and what stood past it is as it was
-pub record Says (s : P.Said) (r : Said) (out out′ err err′ : List ℕ) : Type 0 where
+pub record Writes (s : P.Said) (r : Said) (out out′ err err′ : List ℕ) : Type 0 where
   pub written : r .out ≡ length (s .out)
   pub page : out′ ≡ room-after (s .out) out
   pub noted : r .err ≡ length (s .err)
@@ -44,5 +44,5 @@ room-left (refused why p) room = room
 
 -- what is said of what came, and the room after the run
 pub record Tells (say : Answer Report → P.Said) (a : Answer Report) (room : List ℕ) (r : Said) (room′ out out′ err err′ : List ℕ) : Type 0 where
-  pub says : Says (say a) r out out′ err err′
+  pub says : Writes (say a) r out out′ err err′
   pub after : room′ ≡ room-left a room
