@@ -11,6 +11,7 @@ use Rattle.instruction.specs.Numbers as Numbers
 use Rattle.instruction.specs.Instructions as Instructions
 use Rattle.machine.specs.Machine as Machine
 use Rattle.meaning.specs.Layout as Layout
+use Rattle.tables.specs.Tables as Tables
 use Rattle.compiler.specs.Compiled as Compiled
 use Rattle.bench.specs.Examples as Examples
 use Rattle.bench.proofs.yield_as_expected.Statement.{statement}
@@ -30,7 +31,7 @@ returns c =
     Instructions.alone Instructions.natural Instructions.halting Instructions.opcode Instructions.operation Instructions.decode Instructions.number Instructions.pair Instructions.numbers Instructions.takes Instructions.gives
     Machine.string Machine.closed Machine.string-from Machine.reading Machine.one-used Machine.printed Machine.peek Machine.poke Machine.pushed Machine.left-with Machine.jumped Machine.resulting Machine.taken Machine.written Machine.pairs Machine.names-well Machine.prints Machine.does Machine.tried Machine.decoded Machine.fetched Machine.step Machine.run Machine.report Machine.bad-table Machine.whole-run Machine.stack-after Machine.room-after
     Layout.size Layout.code Layout.program-code Layout.need Layout.program-need
-    Compiled.short-enough Compiled.code-of-text Compiled.at-most Compiled.measured Compiled.judged Compiled.compiled Compiled.summary Compiled.filled Compiled.table-after
+    Compiled.short-enough Compiled.code-of-text Compiled.at-most Compiled.measured Compiled.judged Compiled.compiled Compiled.summary Tables.filled Compiled.table-after
     Examples.ran Examples.weighed Examples.yields
     in refl
 
