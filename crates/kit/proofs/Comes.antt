@@ -21,7 +21,7 @@ use Rattle.compiler.specs.Answers as C
 use Rattle.compiler.specs.Answers.{answered}
 use Rattle.compiler.specs.Compiled.{Accepted, table-after, code-of-text, compiled}
 use Rattle.tables.specs.Tables.{filled}
-use Rattle.tables.proofs.Filled.{length-numbers}
+use Rattle.instruction.proofs.Pairs.{length-numbers}
 use Rattle.kit.specs.Kit.{worked-out, need-of, refused-so, stack-too-short, ran, Outcome-of}
 use Rattle.kit.specs.declared.Outcome.{Outcome}
 use Rattle.kit.specs.declared.Outcome.the-variants as outcome

@@ -12,7 +12,7 @@ use lib.ListN.{length, set}
 use lib.Seq.{sets, set-comm, length-sets}
 use Rattle.instruction.specs.Instructions.{Instruction, pair}
 use Rattle.tables.specs.Tables.{put, emit}
-use Rattle.tables.proofs.Filled.{length-pair}
+use Rattle.instruction.proofs.Pairs.{length-pair}
 
 -- ---- one pair
 

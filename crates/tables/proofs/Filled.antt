@@ -7,33 +7,14 @@ use borrow.Author.Tests.{lt-ltb}
 use lib.IntN.{ℤ, pos}
 use lib.ListN.{length, drop, replicate, length-replicate}
 use lib.Seq.{sets, sets-eq, length-sets}
-use Rattle.instruction.specs.Instructions.{Instruction, halt, push-int, load-stack, store-stack, jump, jump-if-false, two-sided, negate, not, read, print-int, print-str, print-str-ln, pair, numbers}
+use Rattle.instruction.specs.Instructions.{Instruction, pair, numbers}
+use Rattle.instruction.proofs.Pairs.{Written, written, length-numbers}
 use Rattle.tables.specs.Tables.{put, emit, filled}
 
 -- an instruction is two numbers, in front of what follows
-pub is-pair : (i : Instruction) → (a b : ℤ) × ((t : List ℤ) → pair i t ≡ a ∷ b ∷ t)
-unfolding pair
-is-pair (halt h) = (_, _, λ t. refl)
-is-pair (push-int v) = (_, _, λ t. refl)
-is-pair (load-stack k) = (_, _, λ t. refl)
-is-pair (store-stack k) = (_, _, λ t. refl)
-is-pair (jump a) = (_, _, λ t. refl)
-is-pair (jump-if-false a) = (_, _, λ t. refl)
-is-pair (two-sided o) = (_, _, λ t. refl)
-is-pair negate = (_, _, λ t. refl)
-is-pair not = (_, _, λ t. refl)
-is-pair read = (_, _, λ t. refl)
-is-pair print-int = (_, _, λ t. refl)
-is-pair (print-str s) = (_, _, λ t. refl)
-is-pair (print-str-ln s) = (_, _, λ t. refl)
-
-pub length-pair : (i : Instruction) (t : List ℤ) → length (pair i t) ≡ suc (suc (length t))
-length-pair i t = ap length (is-pair i .2 t)
-
-pub length-numbers : (is : List Instruction) → length (numbers is) ≡ length is * 2
-unfolding numbers
-length-numbers [] = refl
-length-numbers (i ∷ is) = length-pair i (numbers is) ∙ omega (arith, length-numbers is)
+is-pair : (i : Instruction) → (a b : ℤ) × ((t : List ℤ) → pair i t ≡ a ∷ b ∷ t)
+unfolding Written
+is-pair i = let w = written i in (w .0, w .1, w .2)
 
 pub emit-sets : (is : List Instruction) (table : List ℤ) (n : ℕ) → n + length is ≤ length table / 2 → emit table n is ≡ sets table (n * 2) (numbers is)
 unfolding emit put numbers
