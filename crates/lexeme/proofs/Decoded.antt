@@ -3,14 +3,14 @@ use mathlib.Core.Path.{_≡_, refl, sym, ap, _∙_}
 use mathlib.Core.List.{List}
 use Prim.Native.Nat.{ℕ}
 use native.Mathlib.Omega.{arith}
-use Rattle.lexeme.specs.Lexemes.{fixed, Fixed, becomes, equals-sign, comma, dot, greater-sign, less-sign, plus-sign, minus-sign, star, slash, open-round, close-round, open-square, close-square, open-brace, close-brace, CALL, CLASS, DO, ERROR, FIELDS, IF, INIT, INT, METHOD, NOT, OBJ, PRINTI, PRINTLNS, PRINTS, PROCEDURE, READ, RETURNS, SUBCLASSOF, THEN, USING, WHILE, end}
+use Rattle.lexeme.specs.Lexemes.{symbols, keywords, fixed, Fixed, becomes, equals-sign, comma, dot, greater-sign, less-sign, plus-sign, minus-sign, star, slash, open-round, close-round, open-square, close-square, open-brace, close-brace, CALL, CLASS, DO, ERROR, FIELDS, IF, INIT, INT, METHOD, NOT, OBJ, PRINTI, PRINTLNS, PRINTS, PROCEDURE, READ, RETURNS, SUBCLASSOF, THEN, USING, WHILE, end}
 use Rattle.lexeme.specs.Coded.{code-of, fixeds, fixed-in, fixed-of, fixed-number, what-of, told}
 use Rattle.lexeme.specs.declared.Kind.{Kind}
 use Rattle.lexeme.specs.declared.Kind.the-variants as kind
 use Rattle.lexeme.specs.declared.Lexeme.{Lexeme}
 
 pub fixed-back : (f : Fixed) → fixed-of (code-of f) ≡ f
-unfolding fixed-of fixed-in fixeds code-of
+unfolding fixed-of fixed-in fixeds symbols keywords code-of
 fixed-back becomes = refl
 fixed-back equals-sign = refl
 fixed-back comma = refl
@@ -55,7 +55,7 @@ code-of-injective f g e = sym (fixed-back f) ∙ ap fixed-of e ∙ fixed-back g
 
 -- 255 is the number of none
 no-code : (f : Fixed) → code-of f ≡ 255 → ⊥
-unfolding fixed-of fixed-in fixeds code-of
+unfolding fixed-of fixed-in fixeds symbols keywords code-of
 no-code f e =
     let g : end ≡ f = ap fixed-of (sym e) ∙ fixed-back f in
     let z : 0 ≡ code-of f = ap code-of g in

@@ -1,6 +1,6 @@
 -- How the code writes lexemes: its enums and numbers for those of the definitions, and the way back.
 use mathlib.Core.Path.{_≡_}
-use mathlib.Core.List.{List, [], _∷_}
+use mathlib.Core.List.{List, [], _∷_, _++_, map}
 use mathlib.Core.Bool.{Bool, true, false}
 use Prim.Native.Nat.{ℕ, _+_, _-_, _≤_, _<_, min}
 use Prim.Native.Char.{code}
@@ -8,7 +8,7 @@ use lib.Dec.{eqb, ltb}
 use lib.ListN.{length}
 use Rattle.base.specs.Answers.{Answer, given, refused}
 use Rattle.base.specs.Bytes.{part}
-use Rattle.lexeme.specs.Lexemes.{Sizes, Fixed, becomes, equals-sign, comma, dot, greater-sign, less-sign, plus-sign, minus-sign, star, slash, open-round, close-round, open-square, close-square, open-brace, close-brace, CALL, CLASS, DO, ERROR, FIELDS, IF, INIT, INT, METHOD, NOT, OBJ, PRINTI, PRINTLNS, PRINTS, PROCEDURE, READ, RETURNS, SUBCLASSOF, THEN, USING, WHILE, end, lit, name, class, string, fixed, Placed, Next, lexeme, nothing, next}
+use Rattle.lexeme.specs.Lexemes.{Sizes, Symbol, symbols, Keyword, keywords, Fixed, becomes, equals-sign, comma, dot, greater-sign, less-sign, plus-sign, minus-sign, star, slash, open-round, close-round, open-square, close-square, open-brace, close-brace, CALL, CLASS, DO, ERROR, FIELDS, IF, INIT, INT, METHOD, NOT, OBJ, PRINTI, PRINTLNS, PRINTS, PROCEDURE, READ, RETURNS, SUBCLASSOF, THEN, USING, WHILE, end, lit, name, class, string, fixed, Placed, Next, lexeme, nothing, next}
 use Rattle.lexeme.specs.Lexemes as lexemes
 use Rattle.lexeme.specs.declared.Kind.{Kind}
 use Rattle.lexeme.specs.declared.Kind.the-variants as kind
@@ -96,8 +96,9 @@ large most (kind.Fixed f) n = false
 
 -- ---- and back
 
+-- all but the end: `:=`, and those of the tables
 unfoldable pub fixeds : List Fixed
-fixeds = becomes ∷ equals-sign ∷ comma ∷ dot ∷ greater-sign ∷ less-sign ∷ plus-sign ∷ minus-sign ∷ star ∷ slash ∷ open-round ∷ close-round ∷ open-square ∷ close-square ∷ open-brace ∷ close-brace ∷ CALL ∷ CLASS ∷ DO ∷ ERROR ∷ FIELDS ∷ IF ∷ INIT ∷ INT ∷ METHOD ∷ NOT ∷ OBJ ∷ PRINTI ∷ PRINTLNS ∷ PRINTS ∷ PROCEDURE ∷ READ ∷ RETURNS ∷ SUBCLASSOF ∷ THEN ∷ USING ∷ WHILE ∷ []
+fixeds = becomes ∷ (map (λ (y : Symbol). y .means) symbols ++ map (λ (k : Keyword). k .means) keywords)
 
 unfoldable pub fixed-in : List Fixed → ℕ → Fixed
 fixed-in [] n = end

@@ -7,7 +7,7 @@ use Prim.Native.Nat.{ℕ}
 use native.Mathlib.Omega.{arith}
 use lib.Dec.{eqb}
 use borrow.Author.Tests.{eqb-true, eq-eqb, ne-eqb}
-use Rattle.lexeme.specs.Lexemes.{Fixed, Lexeme, lit, name, class, string, fixed, plus-sign, minus-sign, star, slash, less-sign, greater-sign, equals-sign}
+use Rattle.lexeme.specs.Lexemes.{symbols, keywords, Fixed, Lexeme, lit, name, class, string, fixed, plus-sign, minus-sign, star, slash, less-sign, greater-sign, equals-sign}
 use Rattle.lexeme.specs.Coded.{code-of, kind-of, fixed-number, fixed-of, fixed-in, fixeds}
 use Rattle.lexeme.proofs.Decoded.{fixed-back, code-of-injective}
 use Rattle.sentence.specs.Sentences.{Sign, plus, minus, Mul, times, over, Rel, less, greater, equal, sign, mul, rel}
@@ -20,7 +20,7 @@ abbrev pub number-of : Lexeme → ℕ
 number-of l = fixed-number (kind-of l)
 
 no-255 : (w : Fixed) → false ≡ eqb 255 (code-of w)
-unfolding code-of fixed-of fixed-in fixeds
+unfolding code-of fixed-of fixed-in fixeds symbols keywords
 no-255 w = sym (ne-eqb 255 (code-of w) (λ e. let f = ap code-of (ap fixed-of e ∙ fixed-back w) in omega arith))
 
 pub is-number : (w : Fixed) (l : Lexeme) → is w l ≡ eqb (number-of l) (code-of w)
