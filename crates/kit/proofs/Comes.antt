@@ -40,7 +40,7 @@ module _ {a : A.Answer Accepted} {n : ℕ} {k : Counts} {table : List ℤ} (t : 
   -- the text's own code is the table's first part
   pub own-code : take (k .instructions * 2) table ≡ numbers (code-of-text (t .text))
   unfolding table-after filled
-  own-code = rw (t .after) (take-at (numbers (code-of-text (t .text))) _ (k .instructions * 2) (length-numbers (code-of-text (t .text)) ∙ ap (λ (x : ℕ). x * 2) (t .count)))
+  own-code = rw (t .after) (take-at (numbers (code-of-text (t .text))) _ (k .instructions * 2) (omega (arith, length-numbers (code-of-text (t .text)), t .count)))
 
   stands : k .instructions * 2 ≤ length table
   unfolding table-after filled
