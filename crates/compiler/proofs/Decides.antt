@@ -25,7 +25,7 @@ use Rattle.sentence.specs.Reader.{read}
 use Rattle.names.specs.Names.{Scope, Known, nothing-declared, resolved}
 use Rattle.names.specs.Held.{counts, room, scope-in}
 use Rattle.names.proofs.Held.{nothing-scope}
-use Rattle.instruction.specs.Instructions.{halt, push-int, pair}
+use Rattle.instruction.specs.Instructions.{halt, push-int, encode}
 use Rattle.meaning.specs.Layout.{size, need, code, program-code, program-need}
 use Rattle.meaning.proofs.Laid.{laid-program}
 use Rattle.compiler.specs.declared.walk.Walk.{Walk}
@@ -124,8 +124,8 @@ module _ {limit : ℕ} {text names names′ : List ℕ} {table table′ : List �
 -- ---- the table
 
 -- the cells, the Command and the end, as the code writes them
-whole-written : (table : List ℤ) (cells : ℕ) (y : Sen ℕ command) → put (emit (opening cells table) cells (code cells y)) (cells + size y) (pair (halt 0) []) ≡ emit table 0 (program-code cells y)
-unfolding program-code opening pair
+whole-written : (table : List ℤ) (cells : ℕ) (y : Sen ℕ command) → put (emit (opening cells table) cells (code cells y)) (cells + size y) (encode (halt 0) []) ≡ emit table 0 (program-code cells y)
+unfolding program-code opening encode
 whole-written table cells y =
     let o = replicate cells (push-int (pos 0)) in
     sym (emit-append table 0 o (code cells y ++ halt 0 ∷ []) ∙ rw (length-replicate, zero-add) (emit-code (emit table 0 o) cells y (halt 0 ∷ []) ∙ emit-one (emit (emit table 0 o) cells (code cells y)) (cells + size y) (halt 0)))
@@ -135,7 +135,7 @@ module _ (limit : ℕ) (text names : List ℕ) (table : List ℤ) (cells : ℕ) 
   unfolding Written
   not-written is sizes ls m k small lx rd rs c = never (sym rd ∙ not-read limit text names (opening cells table) cells o names′ table′ d is sizes ls small lx)
 
-  pub written : {v : Walk} {g : Gives} → r ≡ read.Done v g → Written limit (room names) text cells table (put table′ (v .code) (pair (halt 0) []))
+  pub written : {v : Walk} {g : Gives} → r ≡ read.Done v g → Written limit (room names) text cells table (put table′ (v .code) (encode (halt 0) []))
   unfolding Written
   written is sizes ls m k small lx rd rs c =
       let q = ran limit text names (opening cells table) cells o names′ table′ d is in

@@ -18,7 +18,7 @@ use Rattle.names.specs.Names.{Scope, Known, Naming, _>>=_, give, resolve}
 use Rattle.names.specs.Held.{room, Sound, Kept}
 use Rattle.names.proofs.Held.{kept-all, kept-then}
 use Rattle.instruction.specs.Numbers.{Two-sided}
-use Rattle.instruction.specs.Instructions.{Instruction, halt, push-int, jump, jump-if-false, two-sided, negate, not, print-int, print-str, print-str-ln, number, pair, opcode}
+use Rattle.instruction.specs.Instructions.{Instruction, halt, push-int, jump, jump-if-false, two-sided, negate, not, print-int, print-str, print-str-ln, number, encode, opcode}
 use Rattle.meaning.specs.Layout.{of-mul, of-sign, of-rel, size, code, need}
 use Rattle.compiler.specs.declared.walk.Walk.{Walk}
 use Rattle.compiler.specs.declared.walk.Gives.{Gives}
@@ -132,24 +132,24 @@ quoted false q = print-string q
 
 module _ {text names : List ℕ} {table : List ℤ} {w : Walk} where
   lays-alone : {k : Kind} (x : Sen Name k) (z : Sen ℕ k) (i : Instruction) (n : ℕ) → resolve (room names) x ≡ give z → size z ≡ 1 → need z ≡ n → n ≤ 1 → code (w .code) z ≡ i ∷ [] →
-      (m : Lexeme) → w .next .place < m .place → Sound names → Lays text names table w x names (put table (w .code) (pair i [])) (moved-to (one-instruction w) m) (record { need = n })
+      (m : Lexeme) → w .next .place < m .place → Sound names → Lays text names table w x names (put table (w .code) (encode i [])) (moved-to (one-instruction w) m) (record { need = n })
   unfolding moved-to one-instruction stand
   lays-alone {k} x z i n e s d l c m h f = lays (rw e (agrees-give z (stand text names w) written)) (omega (arith, few k)) f (kept-all names)
     where
-      written : Laid table (put table (w .code) (pair i [])) w (moved-to (one-instruction w) m) (record { need = n }) z
+      written : Laid table (put table (w .code) (encode i [])) w (moved-to (one-instruction w) m) (record { need = n }) z
       written = record { code = ap (λ j. w .code + j) (sym s); need = sym d; numbers = sym (ap (emit table (w .code)) c ∙ emit-one table (w .code) i) }
 
   pub lays-literal : (n : ℕ) (m : Lexeme) → w .next .place < m .place → Sound names → Lays text names table w (literal n) names (put table (w .code) (pos 2 ∷ pos n ∷ [])) (moved-to (one-instruction w) m) (record { need = 1 })
-  unfolding resolve size need code pair
+  unfolding resolve size need code encode
   lays-literal n = lays-alone (literal n) (literal n) (push-int (pos n)) 1 refl refl refl (le-refl 1) refl
 
   pub lays-error : (m : Lexeme) → w .next .place < m .place → Sound names → Lays text names table w error names (put table (w .code) (pos 1 ∷ pos 1 ∷ [])) (one-instruction (moved-to w m)) (record { need = 0 })
-  unfolding moved-to one-instruction resolve size need code pair
+  unfolding moved-to one-instruction resolve size need code encode
   lays-error = lays-alone error error (halt 1) 0 refl refl refl (omega arith) refl
 
   pub lays-quoted : (line : Bool) (q : Quoted) (m : Lexeme) → q .place ≡ w .next .place + 1 → w .next .place < m .place → Sound names →
       Lays text names table w (quoted line q) names (put table (w .code) (printing-number line ∷ pos (w .next .place + 1) ∷ [])) (moved-to (one-instruction w) m) (record { need = 0 })
-  unfolding resolve size need code pair opcode quoted printing-number
+  unfolding resolve size need code encode opcode quoted printing-number
   lays-quoted true q m p = rw (← p) (lays-alone (print-line q) (print-line q) (print-str-ln (q .place)) 0 refl refl refl (omega arith) refl m)
   lays-quoted false q m p = rw (← p) (lays-alone (print-string q) (print-string q) (print-str (q .place)) 0 refl refl refl (omega arith) refl m)
 
@@ -157,7 +157,7 @@ module _ {text names : List ℕ} {table : List ℤ} {w : Walk} where
 
 -- the code of a part, then one instruction
 pub laid-more : {k l : Kind} {table table′ : List ℤ} {w u v : Walk} {g : Gives} {y : Sen ℕ k} (z : Sen ℕ l) (i : Instruction) → u .code ≡ w .code → size z ≡ size y + 1 → need z ≡ need y → code (w .code) z ≡ code (w .code) y ++ i ∷ [] →
-    Laid table table′ u v g y → Laid table (put table′ (v .code) (pair i [])) w (one-instruction v) g z
+    Laid table table′ u v g y → Laid table (put table′ (v .code) (encode i [])) w (one-instruction v) g z
 unfolding one-instruction
 laid-more {table} {table′} {w} {u} {v} {y} z i a s d c p = record {
   code = omega (arith, p .code, s);
@@ -175,7 +175,7 @@ module _ {k l : Kind} {text names names′ : List ℕ} {table table′ : List �
 
   -- and one instruction after it
   lays-more : (i : Instruction) → ((y : Sen ℕ k) → size (make y) ≡ size y + 1) → ((y : Sen ℕ k) → need (make y) ≡ need y) → ((a : ℕ) (y : Sen ℕ k) → code a (make y) ≡ code a y ++ i ∷ []) →
-      (m : Lexeme) → w .next .place ≤ m .place → 4 * w .next .place + 1 + spare l ≤ 4 * m .place + spare k → Lays text names table (moved-to w m) x names′ table′ v g → Lays text names table w z names′ (put table′ (v .code) (pair i [])) (one-instruction v) g
+      (m : Lexeme) → w .next .place ≤ m .place → 4 * w .next .place + 1 + spare l ≤ 4 * m .place + spare k → Lays text names table (moved-to w m) x names′ table′ v g → Lays text names table w z names′ (put table′ (v .code) (encode i [])) (one-instruction v) g
   unfolding moved-to one-instruction stand
   lays-more i s d c m h j p =
       lays (rw e (agrees-one make (λ y. laid-more (make y) i refl (s y) (d y) (c (w .code) y)) (resolve (room names) x) (stand text names w) (agrees p))) (omega (arith, p .small)) (p .sound) (p .kept)
@@ -202,15 +202,15 @@ module _ {text names names′ : List ℕ} {table table′ : List ℤ} {w v : Wal
   lays-signed-plus m h p = lead m (omega arith) (lays-same (signed plus) refl (le-refl 2) (λ y. add-zero (size y)) (λ y. refl) (λ a y. append-nil (code a y)) p)
 
   pub lays-signed-minus : {x : Sen Name term} (m : Lexeme) → w .next .place < m .place → Lays text names table (moved-to w m) x names′ table′ v g → Lays text names table w (signed minus x) names′ (put table′ (v .code) (pos 14 ∷ pos 0 ∷ [])) (one-instruction v) g
-  unfolding resolve size need code pair spare
+  unfolding resolve size need code encode spare
   lays-signed-minus m h = lays-more (signed minus) refl negate (λ y. refl) (λ y. refl) (λ a y. refl) m (omega arith) (omega arith)
 
   pub lays-negated : {x : Sen Name condition} (m : Lexeme) → w .next .place < m .place → Lays text names table (moved-to w m) x names′ table′ v g → Lays text names table w (negated x) names′ (put table′ (v .code) (pos 15 ∷ pos 0 ∷ [])) (one-instruction v) g
-  unfolding resolve size need code pair spare
+  unfolding resolve size need code encode spare
   lays-negated m h = lays-more negated refl not (λ y. refl) (λ y. refl) (λ a y. refl) m (omega arith) (omega arith)
 
   pub lays-print : {x : Sen Name expression} → Lays text names table w x names′ table′ v g → Lays text names table w (print x) names′ (put table′ (v .code) (pos 17 ∷ pos 0 ∷ [])) (one-instruction v) g
-  unfolding moved-to resolve size need code pair spare
+  unfolding moved-to resolve size need code encode spare
   lays-print = lays-more print refl print-int (λ y. refl) (λ y. refl) (λ a y. refl) (w .next) (le-refl (w .next .place)) (omega arith)
 
 -- ---- two parts
@@ -230,7 +230,7 @@ module _ {k j l : Kind} {text names names₁ names₂ : List ℕ} {table table�
 laid-joined : {k j l : Kind} {table table₁ table₂ : List ℤ} {w c v : Walk} {g h : Gives} {x : Sen ℕ k} {y : Sen ℕ j} (z : Sen ℕ l) (o : Two-sided) (n : ℤ) (m : Lexeme) → n ≡ number o →
     size z ≡ size x + size y + 1 → need z ≡ max (need x) (1 + need y) → code (w .code) z ≡ code (w .code) x ++ (code (w .code + size x) y ++ two-sided o ∷ []) →
     Laid table table₁ w c g x → Laid table₁ table₂ (moved-to c m) v h y → Laid table (put table₂ (v .code) (n ∷ pos 0 ∷ [])) w (one-instruction v) (record { need = max (g .need) (1 + h .need) }) z
-unfolding moved-to one-instruction pair
+unfolding moved-to one-instruction encode
 laid-joined {table} {table₁} {table₂} {w} {c} {v} {x} {y} z o n m e s d f p q = record {
   code = omega (arith, p .code, q .code, s);
   need = rw (d, ← p .need, ← q .need);
@@ -267,7 +267,7 @@ guarded false x y = when x y
 -- the condition's code, and its jump over the rest to the walk's end
 laid-over : {table table₁ table₂ : List ℤ} {w c v : Walk} {g d : Gives} {x : Sen ℕ condition} (z : Sen ℕ command) (is : List Instruction) → code (w .code) z ≡ code (w .code) x ++ jump-if-false (v .code) ∷ is →
     v .code ≡ w .code + size z → d .need ≡ need z → Laid table table₁ w c g x → table₂ ≡ emit table₁ (c .code + 1) is → Laid table (put table₂ (c .code) (pos 6 ∷ pos (v .code) ∷ [])) w v d z
-unfolding pair
+unfolding encode
 laid-over {table} {table₁} {w} {c} {v} {x} z is e s n p t = record {
   code = s;
   need = n;
@@ -276,7 +276,7 @@ laid-over {table} {table₁} {w} {c} {v} {x} z is e s n p t = record {
 
 module _ {table table₁ table₂ : List ℤ} {w c v : Walk} {g h : Gives} {x : Sen ℕ condition} {y : Sen ℕ command} (m : Lexeme) (p : Laid table table₁ w c g x) (q : Laid table₁ table₂ (one-instruction (moved-to c m)) v h y) where
   laid-guarded : (again : Bool) → let u = ended-walk again v in Laid table (put (ended-table again table₂ (v .code) (w .code)) (c .code) (pos 6 ∷ pos (u .code) ∷ [])) w u (record { need = max (g .need) (h .need) }) (guarded again x y)
-  unfolding moved-to one-instruction size need code pair ended-walk ended-table guarded
+  unfolding moved-to one-instruction size need code encode ended-walk ended-table guarded
   laid-guarded true = laid-over (while x y) (code (c .code + 1) y ++ jump (w .code) ∷ []) (rw (q .code, p .code) refl) (omega (arith, p .code, q .code)) (ap₂ max (p .need) (q .need)) p (sym (emit-code table₁ (c .code + 1) y (jump (w .code) ∷ []) ∙ rw (← q .code, ← q .numbers) (emit-one table₂ (v .code) (jump (w .code)))))
   laid-guarded false = laid-over (when x y) (code (c .code + 1) y) (rw (q .code, p .code) refl) (omega (arith, p .code, q .code)) (ap₂ max (p .need) (q .need)) p (q .numbers)
 

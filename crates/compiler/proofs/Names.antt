@@ -21,7 +21,7 @@ use Rattle.names.specs.declared.Cell.{Cell}
 use Rattle.names.specs.declared.Cell.the-variants.{At, Nowhere}
 use Rattle.names.specs.Held.{counts, room, scope-in, declared-in, opened-in, closed-in, Sound}
 use Rattle.names.proofs.Held.{used-at, used-nowhere, found-low, kept-all, declared-kept, declared-sound, declared-given, declared-too-many, opened-counts, opened-long, opened-scope-in, opened-sound, closed-kept, closed-sound, closed-scope-in}
-use Rattle.instruction.specs.Instructions.{Instruction, push-int, load-stack, store-stack, read, pair}
+use Rattle.instruction.specs.Instructions.{Instruction, push-int, load-stack, store-stack, read, encode}
 use Rattle.meaning.specs.Layout.{size, code, need}
 use Rattle.compiler.specs.declared.walk.Walk.{Walk}
 use Rattle.compiler.specs.declared.walk.Gives.{Gives}
@@ -64,14 +64,14 @@ module _ (text names : List ℕ) (sound : Sound names) (l : Lexeme) where
       by Nowhere e (Is why p) = unfold noted-walk faulted-walk first-fault standing pass in refuses why p refl refl
 
 -- two instructions and no part
-laid-pair : {l : Kind} {table : List ℤ} {w v : Walk} {g : Gives} (z : Sen ℕ l) (i j : Instruction) → v .code ≡ w .code + 2 → g .need ≡ need z → size z ≡ 2 → code (w .code) z ≡ i ∷ j ∷ [] → Laid table (put (put table (w .code) (pair i [])) (w .code + 1) (pair j [])) w v g z
+laid-pair : {l : Kind} {table : List ℤ} {w v : Walk} {g : Gives} (z : Sen ℕ l) (i j : Instruction) → v .code ≡ w .code + 2 → g .need ≡ need z → size z ≡ 2 → code (w .code) z ≡ i ∷ j ∷ [] → Laid table (put (put table (w .code) (encode i [])) (w .code + 1) (encode j [])) w v g z
 unfolding emit
 laid-pair z i j a d s c = record { code = rw s a; need = d; numbers = rw (c, add-one) }
 
 module _ {text names : List ℕ} {table : List ℤ} {w : Walk} where
   pub lays-variable : (m : Lexeme) → w .next .place < m .place → Sound names → let c = cell-of text names (w .next) in
       Lays text names table w (variable (name-of text (w .next))) names (put table (w .code) (pos 3 ∷ pos (cell-number c) ∷ [])) (moved-to (one-instruction (noted-walk c w (w .next .place))) m) (record { need = 1 })
-  unfolding moved-to one-instruction stand resolve size need code pair spare
+  unfolding moved-to one-instruction stand resolve size need code encode spare
   lays-variable m h f =
       let c = cell-of text names (w .next) in
       rw (noted-is c w (w .next .place))
@@ -80,7 +80,7 @@ module _ {text names : List ℕ} {table : List ℤ} {w : Walk} where
 
   pub lays-input : (m : Lexeme) → w .next .place < m .place → Sound names → let c = cell-of text names (w .next) in
       Lays text names table w (input (name-of text (w .next))) names (put (put table (w .code) (pos 16 ∷ pos 0 ∷ [])) (w .code + 1) (pos 4 ∷ pos (cell-number c) ∷ [])) (moved-to (one-instruction (noted-walk c (one-instruction w) (w .next .place))) m) (record { need = 1 })
-  unfolding moved-to one-instruction stand resolve size need code pair spare
+  unfolding moved-to one-instruction stand resolve size need code encode spare
   lays-input m h f =
       let c = cell-of text names (w .next) in
       rw (noted-is c (one-instruction w) (w .next .place))
@@ -89,7 +89,7 @@ module _ {text names : List ℕ} {table : List ℤ} {w : Walk} where
 
   pub lays-assign : {table′ : List ℤ} {v : Walk} {g : Gives} {x : Sen Name expression} (l m : Lexeme) → w .next .place ≤ m .place → Sound names → let c = cell-of text names l in
       Lays text names table (moved-to (noted-walk c w (l .place)) m) x names table′ v g → Lays text names table w (assign (name-of text l) x) names (put table′ (v .code) (pos 4 ∷ pos (cell-number c) ∷ [])) (one-instruction v) g
-  unfolding moved-to one-instruction stand resolve size need code pair spare
+  unfolding moved-to one-instruction stand resolve size need code encode spare
   lays-assign {x} l m h f p =
       let c = cell-of text names l in
       let q = rw (noted-is c w (l .place)) at p in
@@ -130,7 +130,7 @@ module _ (names : List ℕ) (sound : Sound names) (w : Walk) (text : List ℕ) w
 module _ {text names : List ℕ} {table : List ℤ} {w : Walk} where
   pub lays-declare : (m : Lexeme) → w .next .place < m .place → Sound names →
       Lays text names table w (declare (name-of text (w .next))) (declared-in names (w .next .place) (w .next .end)) (put (put table (w .code) (pos 2 ∷ pos 0 ∷ [])) (w .code + 1) (pos 4 ∷ pos (counts names .«next_cell») ∷ [])) (moved-to (declared-walk names (one-instruction (one-instruction w))) m) (record { need = 1 })
-  unfolding moved-to one-instruction stand resolve size need code pair spare
+  unfolding moved-to one-instruction stand resolve size need code encode spare
   lays-declare m h f =
       let y = one-instruction (one-instruction w) in
       let c = ap (λ (v : Walk). v .code) (declared-is names y) in

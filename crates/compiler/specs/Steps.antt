@@ -21,7 +21,7 @@ use Rattle.names.specs.declared.Cell.{Cell}
 use Rattle.names.specs.declared.Cell.the-variants.{At, Nowhere}
 use Rattle.names.specs.Held.{counts, room, visible-in, latest}
 use Rattle.instruction.specs.Numbers.{plus, minus, times, divide, equals, smaller, greater}
-use Rattle.instruction.specs.Instructions.{jump, print-str, print-str-ln, number, pair, opcode}
+use Rattle.instruction.specs.Instructions.{jump, print-str, print-str-ln, number, encode, opcode}
 use Rattle.compiler.specs.declared.walk.Walk.{Walk}
 use Rattle.compiler.specs.declared.walk.Gives.{Gives}
 use Rattle.tables.specs.declared.NameFault.{NameFault}
@@ -102,7 +102,7 @@ ended-walk true w = one-instruction w
 ended-walk false w = w
 
 unfoldable pub ended-table : Bool → List ℤ → ℕ → ℕ → List ℤ
-ended-table true table n back = put table n (pair (jump back) [])
+ended-table true table n back = put table n (encode (jump back) [])
 ended-table false table n back = table
 
 -- the operation of a symbol's byte

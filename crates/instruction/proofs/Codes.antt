@@ -12,7 +12,7 @@ use mir.Syntax.{w32, w64}
 use mir.Val.{Fits, SFits, toZ, ofZ}
 use mir.Facts.{toZ-ofZ, fits-natAbs}
 use borrow.Author.Tests.{ne-eqb, ltb-true, le-ltb}
-use Rattle.instruction.specs.Instructions.{Instruction, number, pair, natural, halting, opcode, operation, decode}
+use Rattle.instruction.specs.Instructions.{Instruction, number, encode, natural, halting, opcode, operation, decode}
 use Rattle.instruction.proofs.Signed.{from-bits, not-below}
 
 -- an operation number that the match found
@@ -66,7 +66,7 @@ miss (suc k) n r j p q = by (ℕ-discrete j (suc k)) (miss k n (r .0) j p)
 
 -- a number that is none of 1 to 19 is no operation
 pub no-operation : (z a : ℤ) → none-of 19 (ofZ w32 z) → none ≡ decode z a
-unfolding decode operation opcode pair number
+unfolding decode operation opcode encode number
 no-operation (pos n) a r = let m : (j : ℕ) → 0 < j → j ≤ 19 → eqb n j ≡ false = miss 19 n r in
     rw (m 1 (lit< tt) (lit< tt), m 2 (lit< tt) (lit< tt), m 3 (lit< tt) (lit< tt), m 4 (lit< tt) (lit< tt), m 5 (lit< tt) (lit< tt), m 6 (lit< tt) (lit< tt), m 7 (lit< tt) (lit< tt), m 8 (lit< tt) (lit< tt), m 9 (lit< tt) (lit< tt), m 10 (lit< tt) (lit< tt), m 11 (lit< tt) (lit< tt), m 12 (lit< tt) (lit< tt), m 13 (lit< tt) (lit< tt), m 14 (lit< tt) (lit< tt), m 15 (lit< tt) (lit< tt), m 16 (lit< tt) (lit< tt), m 17 (lit< tt) (lit< tt), m 18 (lit< tt) (lit< tt), m 19 (lit< tt) (lit< tt))
 no-operation (negsuc n) a r = refl

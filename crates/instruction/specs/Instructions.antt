@@ -29,25 +29,25 @@ number smaller = pos 12
 number greater = pos 13
 
 -- the instruction's two numbers, before those that follow
-unfoldable pub pair : Instruction → List ℤ → List ℤ
-pair (halt h) t = pos 1 ∷ pos h ∷ t
-pair (push-int v) t = pos 2 ∷ v ∷ t
-pair (load-stack k) t = pos 3 ∷ pos k ∷ t
-pair (store-stack k) t = pos 4 ∷ pos k ∷ t
-pair (jump a) t = pos 5 ∷ pos a ∷ t
-pair (jump-if-false a) t = pos 6 ∷ pos a ∷ t
-pair (two-sided o) t = number o ∷ pos 0 ∷ t
-pair negate t = pos 14 ∷ pos 0 ∷ t
-pair not t = pos 15 ∷ pos 0 ∷ t
-pair read t = pos 16 ∷ pos 0 ∷ t
-pair print-int t = pos 17 ∷ pos 0 ∷ t
-pair (print-str s) t = pos 18 ∷ pos s ∷ t
-pair (print-str-ln s) t = pos 19 ∷ pos s ∷ t
+unfoldable pub encode : Instruction → List ℤ → List ℤ
+encode (halt h) t = pos 1 ∷ pos h ∷ t
+encode (push-int v) t = pos 2 ∷ v ∷ t
+encode (load-stack k) t = pos 3 ∷ pos k ∷ t
+encode (store-stack k) t = pos 4 ∷ pos k ∷ t
+encode (jump a) t = pos 5 ∷ pos a ∷ t
+encode (jump-if-false a) t = pos 6 ∷ pos a ∷ t
+encode (two-sided o) t = number o ∷ pos 0 ∷ t
+encode negate t = pos 14 ∷ pos 0 ∷ t
+encode not t = pos 15 ∷ pos 0 ∷ t
+encode read t = pos 16 ∷ pos 0 ∷ t
+encode print-int t = pos 17 ∷ pos 0 ∷ t
+encode (print-str s) t = pos 18 ∷ pos s ∷ t
+encode (print-str-ln s) t = pos 19 ∷ pos s ∷ t
 
 -- the numbers of a code table
 unfoldable pub numbers : List Instruction → List ℤ
 numbers [] = []
-numbers (i ∷ is) = pair i (numbers is)
+numbers (i ∷ is) = encode i (numbers is)
 
 -- ---- from a pair to its instruction; none for bad code
 
@@ -67,7 +67,7 @@ halting (negsuc n) = none
 
 -- the number of an instruction's operation, which stands in the table above
 unfoldable pub opcode : Instruction → ℕ
-opcode i = natAbs (getD (pair i []) 0 (pos 0))
+opcode i = natAbs (getD (encode i []) 0 (pos 0))
 
 -- each operation by its number; 0 is none, and so is any number past the last
 unfoldable pub operation : ℕ → ℤ → Option Instruction

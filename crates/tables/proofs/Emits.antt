@@ -10,7 +10,7 @@ use lib.Dec.{ltb}
 use lib.IntN.{ℤ}
 use lib.ListN.{length, set}
 use lib.Seq.{sets, set-comm, length-sets}
-use Rattle.instruction.specs.Instructions.{Instruction, pair}
+use Rattle.instruction.specs.Instructions.{Instruction, encode}
 use Rattle.tables.specs.Tables.{put, emit}
 use Rattle.instruction.proofs.Pairs.{length-pair}
 
@@ -55,21 +55,21 @@ put-put table us vs m n h l =
 pub emit-append : (table : List ℤ) (n : ℕ) (xs ys : List Instruction) → emit table n (xs ++ ys) ≡ emit (emit table n xs) (n + length xs) ys
 unfolding emit
 emit-append table n [] ys = rw add-zero
-emit-append table n (x ∷ xs) ys = rw (add-suc, ← suc-add) (emit-append (put table n (pair x [])) (suc n) xs ys)
+emit-append table n (x ∷ xs) ys = rw (add-suc, ← suc-add) (emit-append (put table n (encode x [])) (suc n) xs ys)
 
 -- a pair before the instructions may as well be put after them
 pub put-emit : (table : List ℤ) (m n : ℕ) (us : List ℤ) (is : List Instruction) → length us ≤ 2 → m < n → put (emit table n is) m us ≡ emit (put table m us) n is
 unfolding emit
 put-emit table m n us [] h l = refl
 put-emit table m n us (i ∷ is) h l =
-    put-emit (put table n (pair i [])) m (suc n) us is h (omega arith)
-    ∙ ap (λ t. emit t (suc n) is) (sym (put-put table us (pair i []) m n h l))
+    put-emit (put table n (encode i [])) m (suc n) us is h (omega arith)
+    ∙ ap (λ t. emit t (suc n) is) (sym (put-put table us (encode i []) m n h l))
 
-pub emit-one : (table : List ℤ) (n : ℕ) (i : Instruction) → emit table n (i ∷ []) ≡ put table n (pair i [])
+pub emit-one : (table : List ℤ) (n : ℕ) (i : Instruction) → emit table n (i ∷ []) ≡ put table n (encode i [])
 unfolding emit
 emit-one table n i = refl
 
 -- an instruction whose place was left free
-pub put-before : (table : List ℤ) (n : ℕ) (i : Instruction) (is : List Instruction) → put (emit table (n + 1) is) n (pair i []) ≡ emit table n (i ∷ is)
+pub put-before : (table : List ℤ) (n : ℕ) (i : Instruction) (is : List Instruction) → put (emit table (n + 1) is) n (encode i []) ≡ emit table n (i ∷ is)
 unfolding emit
-put-before table n i is = rw add-one (put-emit table n (suc n) (pair i []) is (omega (arith, length-pair i [])) (omega arith))
+put-before table n i is = rw add-one (put-emit table n (suc n) (encode i []) is (omega (arith, length-pair i [])) (omega arith))

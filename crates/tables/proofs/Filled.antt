@@ -7,12 +7,12 @@ use borrow.Author.Tests.{lt-ltb}
 use lib.IntN.{ℤ, pos}
 use lib.ListN.{length, drop, replicate, length-replicate}
 use lib.Seq.{sets, sets-eq, length-sets}
-use Rattle.instruction.specs.Instructions.{Instruction, pair, numbers}
+use Rattle.instruction.specs.Instructions.{Instruction, encode, numbers}
 use Rattle.instruction.proofs.Pairs.{Written, written, length-numbers}
 use Rattle.tables.specs.Tables.{put, emit, filled}
 
 -- an instruction is two numbers, in front of what follows
-is-pair : (i : Instruction) → (a b : ℤ) × ((t : List ℤ) → pair i t ≡ a ∷ b ∷ t)
+is-pair : (i : Instruction) → (a b : ℤ) × ((t : List ℤ) → encode i t ≡ a ∷ b ∷ t)
 unfolding Written
 is-pair i = let w = written i in (w .0, w .1, w .2)
 
@@ -23,7 +23,7 @@ emit-sets (i ∷ is) table n h =
     let l : n < length table / 2 = omega arith in
     let e : suc n * 2 ≡ suc (suc (n * 2)) = omega arith in
     rw (lt-ltb n (length table / 2) l)
-    (emit-sets is (sets table (n * 2) (pair i [])) (suc n) (rw length-sets (omega arith))
+    (emit-sets is (sets table (n * 2) (encode i [])) (suc n) (rw length-sets (omega arith))
     ∙ rw (e, is-pair i .2 [], is-pair i .2 (numbers is)))
 
 drop-replicate : {A : Type 0} (v : A) (k n : ℕ) → drop k (replicate n v) ≡ replicate (n - k) v

@@ -6,7 +6,7 @@ use lib.Dec.{ltb}
 use lib.IntN.{ℤ, pos}
 use lib.ListN.{length, replicate}
 use lib.Seq.{sets}
-use Rattle.instruction.specs.Instructions.{Instruction, push-int, pair}
+use Rattle.instruction.specs.Instructions.{Instruction, push-int, encode}
 
 -- a pair at the n-th place, if the table has that place
 unfoldable pub put : List ℤ → ℕ → List ℤ → List ℤ
@@ -15,7 +15,7 @@ put table n numbers = cond (ltb n (length table / 2)) (sets table (n * 2) number
 -- instructions from the n-th place on
 unfoldable pub emit : List ℤ → ℕ → List Instruction → List ℤ
 emit table n [] = table
-emit table n (i ∷ is) = emit (put table n (pair i [])) (suc n) is
+emit table n (i ∷ is) = emit (put table n (encode i [])) (suc n) is
 
 -- one `PushInt 0` for each cell
 unfoldable pub opening : ℕ → List ℤ → List ℤ

@@ -1,7 +1,7 @@
 // The code table, written a pair at a time as far as it has room; and what is answered of a text once its code is known.
 ghost use mathlib.Core.Path.{_≡_};
 ghost use mathlib.Core.List.{[], _∷_};
-ghost use Rattle.instruction.specs.Instructions.{halt, pair};
+ghost use Rattle.instruction.specs.Instructions.{halt, encode};
 ghost use Rattle.tables.specs.Tables.{put, opening};
 ghost use Rattle.tables.specs.Settled.{settled-by};
 use base::Refusal;
@@ -33,7 +33,7 @@ pub fn put_cells(table: &mut [i32], cells: usize)
 
 // The `Halt 0` that ends a Program's code.
 pub fn put_halt(table: &mut [i32], n: usize)
-    ensures { λ _. ⌜ now (table .exit) ≡ put (now (table .entry)) n (pair (halt 0) []) ⌝ }
+    ensures { λ _. ⌜ now (table .exit) ≡ put (now (table .entry)) n (encode (halt 0) []) ⌝ }
 {
     put(table, n, operations::HALT, 0);
 }

@@ -6,7 +6,7 @@ use native.Mathlib.Omega.{arith}
 use borrow.Author.Needs.{needs}
 use lib.IntN.{pos}
 use lib.ListN.{length, replicate}
-use Rattle.instruction.specs.Instructions.{push-int, pair}
+use Rattle.instruction.specs.Instructions.{push-int, encode}
 use Rattle.tables.specs.Tables.{emit, opening}
 use Rattle.tables.proofs.Stores.{emit-on, emit-out}
 use Rattle.tables.proofs.put_cells.Statement.{statement}
@@ -23,7 +23,7 @@ unfolding opening
 loop-holds c = (omega arith, refl, rw (sub-zero (c .args .cells)))
 
 loop-again : tie.Need-loop-again Inv-loop μ-loop
-unfolding pair
+unfolding encode
 loop-again c = (omega arith, search needs, rw (c .before .put .ensures) (emit-on (push-int (pos 0)) (c .before .before .before .before .loop .table) (c .before .before .before .before .before .args .cells) (c .before .before .before .before .loop .i) (omega arith) ∙ c .before .before .before .before .loop .inv .2))
 
 returns : tie.Need-returns Inv-loop μ-loop

@@ -1,11 +1,11 @@
 -- `tables::put_halt` meets its contract. Assumes nothing.
 use borrow.Author.Needs.{needs}
-use Rattle.instruction.specs.Instructions.{pair}
+use Rattle.instruction.specs.Instructions.{encode}
 use Rattle.tables.proofs.put_halt.Statement.{statement}
 use Rattle.tables.proofs.put_halt.Tie as tie
 
 returns : tie.Need-returns
-unfolding pair
+unfolding encode
 returns c = c .before .put .ensures
 
 pub put-halt-spec : {M : Type 1} → statement M

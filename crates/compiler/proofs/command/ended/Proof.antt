@@ -5,14 +5,14 @@ use mir.Facts.{toZ-ofZ}
 use lib.IntN.{pos}
 use Rattle.compiler.proofs.Stores.{count-fits}
 use mathlib.Core.Path.{refl}
-use Rattle.instruction.specs.Instructions.{pair}
+use Rattle.instruction.specs.Instructions.{encode}
 use Rattle.compiler.specs.Steps.{ended-walk, ended-table}
 use borrow.Author.Needs.{needs}
 use Rattle.compiler.proofs.command.ended.Statement.{statement}
 use Rattle.compiler.proofs.command.ended.Tie as tie
 
 returns : tie.Need-returns
-unfolding ended-walk ended-table pair
+unfolding ended-walk ended-table encode
 returns c = rw (c .before .before .before .if1 .taken) (c .before .emitted .ensures .0, rw (toZ-ofZ {w = w32} {z = pos (c .before .before .before .before .args .back)} (count-fits (omega arith))) at (c .before .emitted .ensures .1))
 
 returns-2 : tie.Need-returns-2

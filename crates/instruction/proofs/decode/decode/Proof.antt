@@ -6,7 +6,7 @@ use lib.Dec.{lit<}
 use mir.Syntax.{w32}
 use mir.Val.{ofZ}
 use mir.Facts.{toZ-ofZ}
-use Rattle.instruction.specs.Instructions.{load-stack, store-stack, jump, jump-if-false, print-str, print-str-ln, number, pair, opcode, alone, operation, decode}
+use Rattle.instruction.specs.Instructions.{load-stack, store-stack, jump, jump-if-false, print-str, print-str-ln, number, encode, opcode, alone, operation, decode}
 use Rattle.instruction.proofs.Codes.{found, natural-fits, natural-here, below-is, no-operation}
 use Rattle.instruction.proofs.decode.decode.Statement.{statement}
 use Rattle.instruction.proofs.decode.decode.Tie as tie
@@ -16,7 +16,7 @@ here : (c : tie.Start) (k : ℕ) → k < 2147483648 → ofZ w32 (c .args .operat
 here c = found (c .args .operation) (c .args .a) (c .fits .operation)
 
 pub decode-spec : {M : Type 1} → statement M
-unfolding operation opcode pair number alone
+unfolding operation opcode encode number alone
 decode-spec =
     tie.close
     (tie.spec
