@@ -20,7 +20,7 @@ use Rattle.lexeme.specs.declared.Found.the-variants as reply
 use Rattle.lexeme.proofs.Kind.{the-type}
 use Rattle.lexeme.proofs.Places.{refused-goes}
 use Rattle.sentence.specs.Sentences.{Kind, Sen, command, declare, input, assign, error, block, single, then}
-use Rattle.sentence.specs.Reader.{Around, State, after-command}
+use Rattle.sentence.proofs.Reader.{Around, State, after-command}
 use Rattle.names.specs.Held.{counts, declared-in, opened-in, closed-in}
 use Rattle.compiler.specs.declared.walk.Walk.{Walk}
 use Rattle.compiler.specs.declared.walk.Gives.{Gives}

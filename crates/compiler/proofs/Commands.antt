@@ -19,7 +19,7 @@ use Rattle.lexeme.specs.declared.Kind.the-variants as kind
 use Rattle.lexeme.specs.declared.Found.the-variants as reply
 use Rattle.lexeme.specs.declared.Lexeme as code
 use Rattle.sentence.specs.Sentences.{Sen, condition, command, commands, print, print-line, print-string, declare, input, assign, error, while, when, block, single, then}
-use Rattle.sentence.specs.Reader.{Around, depth, in-print, in-assign, in-while, in-when, in-while-body, in-when-body, in-block, in-block-after, in-program, State, want-DO, want-expression, want-condition, want-command, want-declared, want-read, want-becomes, got-command, nowhere, is, on, on-name, on-string, at-command, at-command-or-brace, after-command, after-condition, whole-expression, step, verdict, goes-on, read}
+use Rattle.sentence.proofs.Reader.{Around, depth, in-print, in-assign, in-while, in-when, in-while-body, in-when-body, in-block, in-block-after, in-program, State, want-DO, want-expression, want-condition, want-command, want-declared, want-read, want-becomes, got-command, nowhere, is, on, on-name, on-string, at-command, at-command-or-brace, after-command, after-condition, whole-expression, step, verdict, goes-on, read}
 use Rattle.sentence.proofs.Operators.{either}
 use Rattle.compiler.specs.declared.walk.Walk.{Walk}
 use Rattle.compiler.specs.declared.walk.Read.the-variants.{Refused}

@@ -1,11 +1,11 @@
 -- What the bytes and the sentences of a text decide: a law for each answer of `judge` and `compile`, and for the table that is left. Assumes nothing.
-use mathlib.Core.Path.{_≡_, refl, sym, ap, _∙_}
+use mathlib.Core.Path.{_≡_, refl, sym, ap, subst, _∙_}
 use mathlib.Core.List.{List, [], _∷_, _++_}
 use mathlib.Core.Bool.{Bool, true, false, cond}
 use Prim.Native.Nat.{ℕ, _+_, _/_, _≤_, _<_}
 use native.Mathlib.Nat.{sub-zero, zero-add}
 use native.Mathlib.Omega.{arith}
-use borrow.Author.Tests.{ltb-false, lt-ltb, le-ltb}
+use borrow.Author.Tests.{ltb-true, ltb-false}
 use lib.Dec.{ltb}
 use lib.IntN.{ℤ, pos}
 use lib.ListN.{length, replicate, length-replicate}
@@ -21,7 +21,8 @@ use Rattle.lexeme.specs.declared.Found.{Found}
 use Rattle.lexeme.specs.declared.Found.the-variants as found
 use Rattle.lexeme.proofs.Ahead.{lexemes-ahead}
 use Rattle.sentence.specs.Sentences.{Sen, command}
-use Rattle.sentence.specs.Reader.{read}
+use Rattle.sentence.proofs.Reader.{read}
+use Rattle.sentence.proofs.Refusals.{accepts}
 use Rattle.names.specs.Names.{Scope, Known, nothing-declared, resolved}
 use Rattle.names.specs.Held.{counts, room, scope-in}
 use Rattle.names.proofs.Held.{nothing-scope}
@@ -37,9 +38,10 @@ use Rattle.compiler.specs.declared.walk.Read.the-variants as read
 use Rattle.tables.specs.declared.Counts.{Counts}
 use Rattle.tables.specs.declared.Answer.{Answer}
 use Rattle.tables.specs.declared.Answer.the-variants.{Accepted, Refused}
-use Rattle.compiler.specs.Answers.{answered, Compiles, Measured, Written}
+use Rattle.compiler.specs.Answers.{answered, Compiles}
 use Rattle.compiler.specs.Compiled as C
-use Rattle.compiler.specs.Compiled.{short-enough, code-of-text, at-most, measured, judged, compiled, table-after}
+use Rattle.compiler.specs.Compiled.{code-of-text, need-of, over-cells, Lexed, Judged, too-long, no-lexemes, accepted, Compiled, no-code, no-room, fits, With-answer, table-after}
+use Rattle.compiler.specs.Measured.{at-most, measured, Measured, Written}
 use Rattle.compiler.specs.Steps.{start-at}
 use Rattle.tables.specs.Settled.{settled-by}
 use Rattle.tables.specs.Tables.{put, emit, opening, filled}
@@ -48,6 +50,7 @@ use Rattle.tables.proofs.Emits.{emit-append, emit-one}
 use Rattle.compiler.proofs.Emits.{emit-code}
 use Rattle.tables.proofs.Filled.{filled-by-code}
 use Rattle.compiler.proofs.Lays.{never}
+use Rattle.compiler.proofs.Judging.{measured-so}
 
 -- ---- the Program
 
@@ -148,7 +151,7 @@ module _ (limit : ℕ) (text names : List ℕ) (table : List ℤ) (cells : ℕ) 
 
 -- by 8, or by none: the walk's counts are those of the code
 sized : (limit cells : ℕ) (v : Walk) (g : Gives) (y : Sen ℕ command) → v .code ≡ size y → g .need ≡ need y → settled-by limit cells (v .code) (cells + g .need) fault.Nothing ≡ answered (at-most limit (record { command = y; cells = cells }))
-unfolding settled-by at-most code-of-text answered program-need
+unfolding settled-by at-most code-of-text need-of answered program-need
 sized limit cells v g y s n = rw long (by (ltb limit m))
   where
     m : ℕ
@@ -175,139 +178,119 @@ module _ (nesting instructions : ℕ) (text names : List ℕ) (none : List ℤ) 
       it : Ran nesting text names none 0 names′ none′ v g
       it = ran nesting text names none 0 o names′ none′ d is
 
-      by : (f : NameFault) → v .fault ≡ f → settled-by instructions (counts names′ .cells) (v .code) (counts names′ .cells + g .need) f ≡ answered (pass (resolved (room names) (it .tree)) λ k. at-most instructions (record { command = k .what; cells = k .scope .cells }))
-      by (fault.Is why p) f = unfold settled-by answered in rw (unnamed it f)
-      by fault.Nothing f = let k = settled it f in rw (k .are-known, k .cells-are) (sized instructions (counts names′ .cells) v g (k .known .what) (omega (arith, k .size-is)) (k .need-is))
+      by : (f : NameFault) → v .fault ≡ f → settled-by instructions (counts names′ .cells) (v .code) (counts names′ .cells + g .need) f ≡ answered (pass (over-cells (room names) (it .tree)) (at-most instructions))
+      by (fault.Is why p) f = unfold settled-by answered over-cells in rw (unnamed it f)
+      by fault.Nothing f = let k = settled it f in unfold over-cells in rw (k .are-known, k .cells-are) (sized instructions (counts names′ .cells) v g (k .known .what) (omega (arith, k .size-is)) (k .need-is))
 
 -- ---- what the bytes decide
 
 module _ (limits : Limits) (text : List ℕ) where
+  abbrev Judges : Answer → Type 0
+  Judges r = With-answer (Judged limits text) (λ a. r ≡ answered a)
+
   -- by 1
-  pub by-length : ltb (limits .text) (length text) ≡ true → Refused TooLong 0 ≡ answered (judged limits text)
-  unfolding judged short-enough pass answered
-  by-length h = rw h
+  pub by-length : ltb (limits .text) (length text) ≡ true → Judges (Refused TooLong 0)
+  unfolding answered
+  by-length h = record { answer = refused TooLong 0; is-given = too-long (ltb-true _ _ h); so = refl }
 
   module _ (short : ltb (limits .text) (length text) ≡ false) {f : Found} (scans : f ≡ scanned text (lexemes (limits .sizes) text)) where
     -- by 2 or 3
-    pub by-bytes : {why : Refusal} {p : ℕ} → f ≡ found.Refused why p → Refused why p ≡ answered (judged limits text)
-    unfolding judged short-enough pass scanned answered
-    by-bytes {why} {p} is = rw (short, by (lexemes (limits .sizes) text) (sym is ∙ scans))
+    pub by-bytes : {why : Refusal} {p : ℕ} → f ≡ found.Refused why p → Judges (Refused why p)
+    unfolding scanned answered
+    by-bytes {why} {p} is = record { answer = refused why p; is-given = no-lexemes (ltb-false _ _ short) (by (lexemes (limits .sizes) text) (sym is ∙ scans)); so = refl }
       where
         by : (l : A.Answer (List Placed)) → found.Refused why p ≡ scanned text l → l ≡ refused why p
         by (given ls) h = let z : _≡_ {A = ℕ} 0 1 = cc in absurd (omega arith)
         by (refused i q) h = cc
 
     -- by none of them
-    pub by-sentences : {l : Lexeme} → f ≡ found.Is l → limits .sizes .literal ≤ 2147483647 → (a : Answer) → Measured (limits .nesting) (limits .declarations) (limits .instructions) text a → a ≡ answered (judged limits text)
-    unfolding judged short-enough pass scanned Measured
-    by-sentences {l} is small a m = rw short (by (lexemes (limits .sizes) text) refl (sym is ∙ scans))
+    pub by-sentences : {l : Lexeme} → f ≡ found.Is l → limits .sizes .literal ≤ 2147483647 → (a : Answer) → Measured (limits .nesting) (limits .declarations) (limits .instructions) text a → Judges a
+    unfolding scanned Measured
+    by-sentences {l} is small a m = by (lexemes (limits .sizes) text) refl (sym is ∙ scans)
       where
-        by : (x : A.Answer (List Placed)) → lexemes (limits .sizes) text ≡ x → found.Is l ≡ scanned text x → a ≡ answered (pass x λ ls. measured (limits .nesting) (limits .declarations) (limits .instructions) ls)
-        by (given ls) e h = m (limits .sizes) ls small e
+        by : (x : A.Answer (List Placed)) → lexemes (limits .sizes) text ≡ x → found.Is l ≡ scanned text x → Judges a
+        by (given ls) e h =
+            let lexed : Lexed limits text ls = record { short = ltb-false _ _ short; are = e } in
+            record { answer = measured (limits .nesting) (limits .declarations) (limits .instructions) ls; is-given = measured-so limits text ls lexed; so = m (limits .sizes) ls small e }
         by (refused i q) e h = let z : _≡_ {A = ℕ} 0 1 = cc in absurd (omega arith)
 
 -- ---- how a text is accepted
 
--- what is passed on was given first
-handed : {X Y : Type 0} (a : A.Answer X) (f : X → A.Answer Y) {y : Y} → pass a f ≡ given y → (x : X) × (a ≡ given x) × (f x ≡ given y)
-unfolding pass
-handed (given x) f h = (x, refl, h)
-handed (refused why p) f h = never (sym h)
+-- what was accepted with these counts, and what is so of it
+pub record Took (Given So : A.Answer C.Accepted → Type 0) (c : Counts) : Type 0 where
+  pub what : C.Accepted
+  pub is-given : Given (given what)
+  pub so : So (given what)
+  pub long : length (code-of-text what) ≡ c .instructions
+  pub cells : what .cells ≡ c .cells
+  pub need : need-of what ≡ c .need
 
-within-limit : (limit : ℕ) (text : List ℕ) {u : Unit {0}} → short-enough limit text ≡ given u → length text ≤ limit
-unfolding short-enough
-within-limit limit text {u} h = ltb-false limit (length text) (by (ltb limit (length text)) h)
-  where
-    by : (b : Bool) → cond b (refused TooLong 0) (given tt) ≡ given u → b ≡ false
-    by true h = never (sym h)
-    by false h = refl
-
-fitting : (limit : ℕ) (a : C.Accepted) {b : C.Accepted} → at-most limit a ≡ given b → (length (code-of-text a) ≤ limit) × (a ≡ b)
-unfolding at-most
-fitting limit a {b} h = by (ltb limit (length (code-of-text a))) refl h
-  where
-    by : (t : Bool) → ltb limit (length (code-of-text a)) ≡ t → cond t (refused TooMuchCode 0) (given a) ≡ given b → (length (code-of-text a) ≤ limit) × (a ≡ b)
-    by true e h = never (sym h)
-    by false e h = (ltb-false limit (length (code-of-text a)) e, cc)
-
--- its lexemes, its tree, and the tree over cells, with these counts
-record Accepts (limits : Limits) (text : List ℕ) (c : Counts) : Type 0 where
-  short : length text ≤ limits .text
-  lexed : List Placed
-  are-lexed : lexemes (limits .sizes) text ≡ given lexed
-  tree : Sen Name command
-  is-read : read (limits .nesting) lexed ≡ given tree
-  known : Known (Sen ℕ command)
-  are-known : resolved (limits .declarations) tree ≡ given known
-  is : judged limits text ≡ given (record { command = known .what; cells = known .scope .cells })
-  cells : known .scope .cells ≡ c .cells
-  long : length (program-code (known .scope .cells) (known .what)) ≡ c .instructions
-  fits : c .instructions ≤ limits .instructions
-
-accepts : (limits : Limits) (text : List ℕ) (a : C.Accepted) (c : Counts) → judged limits text ≡ given a → a .cells ≡ c .cells → length (code-of-text a) ≡ c .instructions → Accepts limits text c
-unfolding judged measured code-of-text
-accepts limits text a c h cells long =
-    let s = handed (short-enough (limits .text) text) _ h in
-    let l = handed (lexemes (limits .sizes) text) _ (s .2) in
-    let m = handed (read (limits .nesting) (l .0)) _ (l .2) in
-    let k = handed (resolved (limits .declarations) (m .0)) _ (m .2) in
-    by (within-limit (limits .text) text (s .1)) (l .1) (m .1) (k .1) (fitting (limits .instructions) (over (k .0)) (k .2))
-  where
-    over : Known (Sen ℕ command) → C.Accepted
-    over k = record { command = k .what; cells = k .scope .cells }
-
-    by : length text ≤ limits .text → {ls : List Placed} → lexemes (limits .sizes) text ≡ given ls → {m : Sen Name command} → read (limits .nesting) ls ≡ given m → {k : Known (Sen ℕ command)} → resolved (limits .declarations) m ≡ given k → (length (code-of-text (over k)) ≤ limits .instructions) × (over k ≡ a) → Accepts limits text c
-    by short {ls} lx {m} rd {k} rs (fits, same) =
-        let length-is : length (code-of-text (over k)) ≡ c .instructions = ap (λ (x : C.Accepted). length (code-of-text x)) same ∙ long in
-        record { short = short; lexed = ls; are-lexed = lx; tree = m; is-read = rd; known = k; are-known = rs; is = h ∙ ap given (sym same); cells = ap (λ (x : C.Accepted). x .cells) same ∙ cells; long = length-is; fits = omega arith }
-
-module _ (limits : Limits) (text : List ℕ) {a : Answer} (e : a ≡ answered (judged limits text)) {c : Counts} (is : a ≡ Accepted c) where
-  accepted : Accepts limits text c
+module _ {Given So : A.Answer C.Accepted → Type 0} (w : With-answer Given So) {r : Answer} (says : (a : A.Answer C.Accepted) → So a → r ≡ answered a) where
+  pub took : {c : Counts} → r ≡ Accepted c → Took Given So c
   unfolding answered
-  accepted = by (judged limits text) refl (sym is ∙ e)
+  took {c} is = by (w .answer) (w .is-given) (w .so) (sym is ∙ says (w .answer) (w .so))
     where
-      by : (x : A.Answer C.Accepted) → judged limits text ≡ x → Accepted c ≡ answered x → Accepts limits text c
-      by (given b) j h =
-          let same : c ≡ record { instructions = length (code-of-text b); cells = b .cells; need = program-need (b .cells) (b .command) } = cc in
-          accepts limits text b c j (sym (ap (λ (x : Counts). x .cells) same)) (sym (ap (λ (x : Counts). x .instructions) same))
-      by (refused why q) j h = let z : _≡_ {A = ℕ} 0 1 = cc in absurd (omega arith)
+      by : (a : A.Answer C.Accepted) → Given a → So a → Accepted c ≡ answered a → Took Given So c
+      by (given x) g s h =
+          let same : record { instructions = length (code-of-text x); cells = x .cells; need = need-of x } ≡ c = cc in
+          record { what = x; is-given = g; so = s; long = ap (λ (k : Counts). k .instructions) same; cells = ap (λ (k : Counts). k .cells) same; need = ap (λ (k : Counts). k .need) same }
+      by (refused why p) g s h = let z : _≡_ {A = ℕ} 0 1 = cc in absurd (omega arith)
 
-  -- the code may be written
-  pub may-write : (length text ≤ limits .text) × (c .cells ≤ limits .instructions)
-  may-write = let s = accepted in (s .short, omega (arith, s .cells, s .long, s .fits, laid-program (s .known .scope .cells) (s .known .what) .long))
+  pub refusal : {why : Refusal} {p : ℕ} → r ≡ Refused why p → Given (refused why p) × So (refused why p)
+  unfolding answered
+  refusal {why} {p} is = by (w .answer) (w .is-given) (w .so) (sym is ∙ says (w .answer) (w .so))
+    where
+      by : (a : A.Answer C.Accepted) → Given a → So a → Refused why p ≡ answered a → Given (refused why p) × So (refused why p)
+      by (given x) g s h = let z : _≡_ {A = ℕ} 0 1 = cc in absurd (omega arith)
+      by (refused k q) g s h = let same : _≡_ {A = A.Answer C.Accepted} (refused k q) (refused why p) = cc in (subst Given same g, subst So same s)
+
+-- its names were resolved
+pub resolves : (limit : ℕ) (m : Sen Name command) {a : C.Accepted} → over-cells limit m ≡ given a → (k : Known (Sen ℕ command)) × (resolved limit m ≡ given k) × (record { command = k .what; cells = k .scope .cells } ≡ a)
+unfolding over-cells pass
+resolves limit m {a} h = by (resolved limit m) h
+  where
+    by : (r : A.Answer (Known (Sen ℕ command))) → pass r (λ k. given (record { command = k .what; cells = k .scope .cells })) ≡ given a → (k : Known (Sen ℕ command)) × (r ≡ given k) × (record { command = k .what; cells = k .scope .cells } ≡ a)
+    by (given k) e = (k, refl, cc)
+    by (refused why p) e = never (sym e)
+
+-- the code may be written
+pub may-write : (limits : Limits) (text : List ℕ) {r : Answer} → With-answer (Judged limits text) (λ a. r ≡ answered a) → {c : Counts} → r ≡ Accepted c → (length text ≤ limits .text) × (c .cells ≤ limits .instructions)
+unfolding code-of-text
+may-write limits text w is = let t = took w (λ a s. s) is in by (t .is-given) (t .cells)
+  where
+    by : {a : C.Accepted} {cells : ℕ} → Judged limits text (given a) → a .cells ≡ cells → (length text ≤ limits .text) × (cells ≤ limits .instructions)
+    by (accepted {a} n h) e = (n .parsed .lexed .short, omega (arith, laid-program (a .cells) (a .command) .long))
 
 -- ---- what `compile` leaves
 
 module _ (limits : Limits) (text : List ℕ) (n : ℕ) (table : List ℤ) (zeros : table ≡ replicate n (pos 0)) where
+  abbrev Leaves : Answer → List ℤ → Type 0
+  Leaves r table′ = With-answer (Compiled limits text n) (Compiles n r table′)
+
   -- a refused text leaves the table as it was cleared
-  says-refused : {a : A.Answer C.Accepted} {why : Refusal} {p : ℕ} → a ≡ refused why p → Compiles a n (Refused why p) table
+  says-refused : {why : Refusal} {p : ℕ} → Compiled limits text n (refused why p) → Leaves (Refused why p) table
   unfolding answered table-after filled
-  says-refused h = rw h (record { answer = refl; numbers = rw (zeros, sub-zero n) })
+  says-refused {why} {p} g = record { answer = refused why p; is-given = g; so = record { answer = refl; numbers = rw (zeros, sub-zero n) } }
 
-  module _ {a : Answer} (e : a ≡ answered (judged limits text)) where
+  written-so : limits .sizes .literal ≤ 2147483647 → {cells : ℕ} {table′ : List ℤ} → Written (limits .nesting) (limits .declarations) text cells table table′ → {a : C.Accepted} → Judged limits text (given a) → a .cells ≡ cells → length (code-of-text a) ≤ n / 2 → table′ ≡ table-after n (given a)
+  unfolding Written table-after code-of-text
+  written-so small {cells} x (accepted {a} m _) e short =
+      let k = resolves (limits .declarations) (m .tree) (m .are) in
+      let rd = accepts (limits .nesting) (m .parsed .from) (m .tree) .1 (m .parsed .whole, m .parsed .shallow) in
+      let own : k .0 .scope .cells ≡ cells = ap (λ (y : C.Accepted). y .cells) (k .2) ∙ e in
+      x (limits .sizes) (m .parsed .from) (m .tree) (k .0) small (m .parsed .lexed .are) rd (k .1) own ∙ rw (zeros, ← e, ap (λ (y : C.Accepted). y .command) (k .2)) (filled-by-code n (program-code (a .cells) (a .command)) short)
+
+  module _ {r : Answer} (w : With-answer (Judged limits text) (λ a. r ≡ answered a)) where
     -- by what `judge` decides
-    pub by-judging : {why : Refusal} {p : ℕ} → a ≡ Refused why p → Compiles (compiled limits text n) n a table
-    unfolding compiled pass answered
-    by-judging {why} {p} is = rw is (by (judged limits text) (sym is ∙ e))
-      where
-        by : (x : A.Answer C.Accepted) → Refused why p ≡ answered x → Compiles (pass x (at-most (n / 2))) n (Refused why p) table
-        by (given b) h = let z : _≡_ {A = ℕ} 0 1 = cc in absurd (omega arith)
-        by (refused k q) h = says-refused cc
+    pub by-judging : {why : Refusal} {p : ℕ} → r ≡ Refused why p → Leaves r table
+    by-judging is = rw is (says-refused (no-code (refusal w (λ a s. s) is .0)))
 
-    module _ {c : Counts} (is : a ≡ Accepted c) where
+    module _ {c : Counts} (is : r ≡ Accepted c) where
       -- by 8, for want of room
-      pub by-room : n / 2 < c .instructions → Compiles (compiled limits text n) n (Refused TooMuchCode 0) table
-      unfolding compiled pass at-most code-of-text
-      by-room h = let s = accepted limits text e is in says-refused (rw (s .is, s .long, lt-ltb (n / 2) (c .instructions) h))
+      pub by-room : n / 2 < c .instructions → Leaves (Refused TooMuchCode 0) table
+      by-room h = let t = took w (λ a s. s) is in says-refused (no-room (t .is-given) (omega (arith, t .long)))
 
-      pub by-none : c .instructions ≤ n / 2 → limits .sizes .literal ≤ 2147483647 → (table′ : List ℤ) → Written (limits .nesting) (limits .declarations) text (c .cells) table table′ → Compiles (compiled limits text n) n (Accepted c) table′
-      unfolding compiled pass at-most Written table-after code-of-text
-      by-none h small table′ w = by (accepted limits text e is)
-        where
-          by : Accepts limits text c → Compiles (pass (judged limits text) (at-most (n / 2))) n (Accepted c) table′
-          by s =
-              rw (s .is, s .long, le-ltb (n / 2) (c .instructions) h)
-              (record {
-                answer = sym is ∙ e ∙ ap answered (s .is);
-                numbers = w (limits .sizes) (s .lexed) (s .tree) (s .known) small (s .are-lexed) (s .is-read) (s .are-known) (s .cells) ∙ rw (zeros, ← s .cells) (filled-by-code n (program-code (s .known .scope .cells) (s .known .what)) (omega (arith, s .long)));
-              })
+      pub by-none : c .instructions ≤ n / 2 → limits .sizes .literal ≤ 2147483647 → (table′ : List ℤ) → Written (limits .nesting) (limits .declarations) text (c .cells) table table′ → Leaves (Accepted c) table′
+      by-none h small table′ x =
+          let t = took w (λ a s. s) is in
+          record { answer = given (t .what); is-given = fits (t .is-given) (omega (arith, t .long)); so = record { answer = sym is ∙ t .so; numbers = written-so small x (t .is-given) (t .cells) (omega (arith, t .long)) } }

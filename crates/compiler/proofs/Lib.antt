@@ -10,4 +10,5 @@ pub mod Programs
 pub mod Reading
 pub mod Replies
 pub mod Stores
+pub mod Judging
 pub mod Unique

@@ -13,7 +13,7 @@ use Rattle.lexeme.specs.declared.Kind.{Kind}
 use Rattle.lexeme.specs.declared.Kind.the-variants as kind
 use Rattle.lexeme.specs.declared.Lexeme as code
 use Rattle.sentence.specs.Sentences.{Sign, Mul, Rel, sign, mul, rel}
-use Rattle.sentence.specs.Reader.{State, is, on-lit, on-name, on-string, on-sign, on-mul, on-rel, is-sign, is-mul, is-rel}
+use Rattle.sentence.proofs.Reader.{State, is, on-lit, on-name, on-string, on-sign, on-mul, on-rel, is-sign, is-mul, is-rel}
 use Rattle.sentence.proofs.Operators.{number-of, is-number, numbered, sign-of, sign-numbered, on-a-sign, on-no-sign, mul-of, mul-numbered, on-a-mul, on-no-mul, rel-of, rel-numbered, on-a-rel, on-no-rel}
 use Rattle.compiler.specs.Walks.{name-of}
 

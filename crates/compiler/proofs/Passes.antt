@@ -14,7 +14,7 @@ use Rattle.lexeme.specs.declared.Found.the-variants as reply
 use Rattle.lexeme.specs.declared.Kind.the-variants as kind
 use Rattle.lexeme.specs.declared.Lexeme as code
 use Rattle.sentence.specs.Sentences.{Kind, Sen, factor, term, expression, condition, literal, variable, bracket, first, multiply, unsigned, signed, add, negated, compare}
-use Rattle.sentence.specs.Reader.{Around, depth, in-first, in-multiply, in-unsigned, in-signed, in-add, in-bracket, in-left, in-right, in-negated, want-factor, want-expression, want-condition, is, on, on-lit, on-name, got-factor, at-factor, at-expression, at-condition, after-condition, whole-expression, after-expression, whole-term, after-term, step, verdict}
+use Rattle.sentence.proofs.Reader.{Around, depth, in-first, in-multiply, in-unsigned, in-signed, in-add, in-bracket, in-left, in-right, in-negated, want-factor, want-expression, want-condition, is, on, on-lit, on-name, got-factor, at-factor, at-expression, at-condition, after-condition, whole-expression, after-expression, whole-term, after-term, step, verdict}
 use Rattle.sentence.proofs.Walk.{factor-open}
 use Rattle.compiler.specs.declared.walk.Walk.{Walk}
 use Rattle.compiler.specs.declared.walk.Read.the-variants.{Refused}

@@ -17,7 +17,7 @@ use Rattle.lexeme.specs.declared.Lexeme as code
 use Rattle.lexeme.specs.declared.Found.the-variants as reply
 use Rattle.lexeme.proofs.Ahead.{begins, not-ahead}
 use Rattle.sentence.specs.Sentences.{Kind, Sen, command}
-use Rattle.sentence.specs.Reader.{Around, depth, State, whole, nowhere, is, step, Verdict, verdict, goes-on, is-whole, begins-none, read-from}
+use Rattle.sentence.proofs.Reader.{Around, depth, State, whole, nowhere, is, step, Verdict, verdict, goes-on, is-whole, begins-none, read-from}
 use Rattle.compiler.specs.declared.walk.Walk.{Walk}
 use Rattle.compiler.specs.declared.walk.Gives.{Gives}
 use Rattle.compiler.specs.declared.walk.Read.the-variants.{Done, Refused}

@@ -1,4 +1,5 @@
 pub mod Compiled
+pub mod Answers
 pub mod Steps
 pub mod Walks
-pub mod Answers
+pub mod Measured

@@ -16,7 +16,7 @@ use Rattle.lexeme.specs.Coded.{code-of, coded, Stands, Ahead}
 use Rattle.lexeme.specs.declared.Lexeme.{Lexeme}
 use Rattle.lexeme.specs.declared.Found.the-variants as reply
 use Rattle.sentence.specs.Sentences.{Kind, Sen, factor, term, expression, condition, command, commands}
-use Rattle.sentence.specs.Reader.{Around, depth, State, in-first, in-left, in-print, in-while, in-when, in-block, want-factor, want-expression, want-condition, want-command, want-line, want-string, want-declared, want-read, want-becomes, step, verdict, goes-on, is-whole, begins-none, whole, read-from, read, got-factor, whole-term, after-expression, whole-expression, after-condition, after-command}
+use Rattle.sentence.proofs.Reader.{Around, depth, State, in-first, in-left, in-print, in-while, in-when, in-block, want-factor, want-expression, want-condition, want-command, want-line, want-string, want-declared, want-read, want-becomes, step, verdict, goes-on, is-whole, begins-none, whole, read-from, read, got-factor, whole-term, after-expression, whole-expression, after-condition, after-command}
 use Rattle.names.specs.Names.{Scope, Known, resolve}
 use Rattle.names.specs.Held.{counts, room, scope-in, Sound, Kept}
 use Rattle.meaning.specs.Layout as layout

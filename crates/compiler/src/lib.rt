@@ -9,8 +9,9 @@ ghost use mathlib.Core.Path.{_≡_};
 ghost use Prim.Native.Nat.{_≤_};
 ghost use lib.ListN.{length};
 ghost use Rattle.limits.specs.Limits.{Sizes};
-ghost use Rattle.compiler.specs.Answers.{answered, Compiles, Measured, Written};
-ghost use Rattle.compiler.specs.Compiled.{judged, compiled};
+ghost use Rattle.compiler.specs.Answers.{answered, Compiles};
+ghost use Rattle.compiler.specs.Compiled.{Judged, Compiled, With-answer};
+ghost use Rattle.compiler.specs.Measured.{Measured, Written};
 ghost use Rattle.compiler.specs.Walks.{Set-out, Reads-program};
 use base::Refusal;
 use lexeme::Found;
@@ -68,7 +69,7 @@ fn measured(text: &[u8]) -> Answer
 pub fn judge(text: &[u8]) -> Answer
     ghost { Sizes }
     requires { λ sizes. do ⌜ record { word = (← ⟦Limits::WORD⟧); string = (← ⟦Limits::STRING⟧); literal = (← ⟦Limits::LITERAL⟧) } ≡ sizes ⌝ }
-    ensures { λ sizes r. do ⌜ r ≡ answered (judged (record { text = (← ⟦Limits::TEXT⟧ .entry); sizes = sizes; nesting = (← ⟦Limits::NESTING⟧ .entry); declarations = (← ⟦Limits::DECLARATIONS⟧ .entry); instructions = (← ⟦Limits::INSTRUCTIONS⟧ .entry) }) (now (text .entry))) ⌝ }
+    ensures { λ sizes r. do ⌜ With-answer (Judged (record { text = (← ⟦Limits::TEXT⟧ .entry); sizes = sizes; nesting = (← ⟦Limits::NESTING⟧ .entry); declarations = (← ⟦Limits::DECLARATIONS⟧ .entry); instructions = (← ⟦Limits::INSTRUCTIONS⟧ .entry) }) (now (text .entry))) (λ a. r ≡ answered a) ⌝ }
 {
     if lexer::too_long(text) {
         return Answer::Refused(Refusal::TooLong, 0);
@@ -98,7 +99,7 @@ fn write(text: &[u8], table: &mut [i32], cells: usize)
 pub fn compile(text: &[u8], table: &mut [i32]) -> Answer
     ghost { Sizes }
     requires { λ sizes. do ⌜ record { word = (← ⟦Limits::WORD⟧); string = (← ⟦Limits::STRING⟧); literal = (← ⟦Limits::LITERAL⟧) } ≡ sizes ⌝ }
-    ensures { λ sizes r. do ⌜ Compiles (compiled (record { text = (← ⟦Limits::TEXT⟧ .entry); sizes = sizes; nesting = (← ⟦Limits::NESTING⟧ .entry); declarations = (← ⟦Limits::DECLARATIONS⟧ .entry); instructions = (← ⟦Limits::INSTRUCTIONS⟧ .entry) }) (now (text .entry)) (length (now (table .entry)))) (length (now (table .entry))) r (now (table .exit)) ⌝ }
+    ensures { λ sizes r. do ⌜ With-answer (Compiled (record { text = (← ⟦Limits::TEXT⟧ .entry); sizes = sizes; nesting = (← ⟦Limits::NESTING⟧ .entry); declarations = (← ⟦Limits::DECLARATIONS⟧ .entry); instructions = (← ⟦Limits::INSTRUCTIONS⟧ .entry) }) (now (text .entry)) (length (now (table .entry)))) (Compiles (length (now (table .entry))) r (now (table .exit))) ⌝ }
 {
     base::clear(table);
     let a = judge(text);

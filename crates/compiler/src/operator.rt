@@ -1,6 +1,6 @@
 // Operators and relations: which lexemes they are, and their operations.
 ghost use mathlib.Core.Path.{_≡_};
-ghost use Rattle.sentence.specs.Reader.{is-sign, is-mul, is-rel};
+ghost use Rattle.sentence.proofs.Reader.{is-sign, is-mul, is-rel};
 ghost use Rattle.compiler.specs.Steps.{operation-number};
 use instruction::operations;
 

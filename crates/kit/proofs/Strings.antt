@@ -10,9 +10,9 @@ use Rattle.lexeme.proofs.Symbols.{Each as Each-of, nil, _also_}
 use Rattle.lexeme.proofs.Ahead.{lexemes-each}
 use Rattle.sentence.specs.Sentences.{Kind, Sen, command, spell, program, literal, variable, bracket, first, multiply, unsigned, signed, add, negated, compare, print, print-line, print-string, declare, input, assign, error, while, when, block, single, then}
 use Rattle.sentence.specs.Grammar.{Whole, whats}
-use Rattle.sentence.specs.Parts.{Each}
+use Rattle.sentence.proofs.Parts.{Each}
 use Rattle.machine.specs.Machine as M
-use Rattle.meaning.specs.Fits.{In-text}
+use Rattle.meaning.proofs.Fits.{In-text}
 
 module _ (text : List ℕ) where
   -- a lexeme that is a string stands in the text

@@ -2,22 +2,31 @@
 use mathlib.Core.Path.{_≡_, refl, sym, ap, _∙_}
 use mathlib.Core.List.{List}
 use Prim.Native.Nat.{ℕ}
-use native.Mathlib.Omega.{arith}
 use lib.IntN.{ℤ}
+use Rattle.limits.specs.Limits.{Limits}
 use Rattle.base.specs.Answers.{Answer}
 use Rattle.machine.proofs.Runs.{only-one}
-use Rattle.compiler.specs.Compiled.{Accepted}
-use Rattle.kit.specs.Kit.{Comes-to, refused-so, stack-too-short, ran, Outcome-of}
+use Rattle.compiler.specs.Compiled.{Accepted, Compiled, With-answer}
+use Rattle.compiler.proofs.Judging.{one-compiled}
+use Rattle.compiler.proofs.Unique.{both}
+use Rattle.kit.specs.Kit.{Comes-to, refused-so, ran, Outcome-of, sendable}
 use Rattle.kit.specs.declared.Outcome.{Outcome}
 use Rattle.kit.specs.declared.Outcome.the-variants as outcome
 
-module _ (readings : List ℤ) (budget n : ℕ) (stack : List ℤ) (out : List ℕ) where
-  same : {a : Answer Accepted} {r r′ : Outcome} {s s′ : List ℤ} {o o′ : List ℕ} → Comes-to readings budget stack out a r s o → Comes-to readings budget stack out a r′ s′ o′ → (r ≡ r′) × (s ≡ s′) × (o ≡ o′)
+module _ (text : List ℕ) (readings : List ℤ) (budget : ℕ) (stack : List ℤ) (out : List ℕ) where
+  same : {a : Answer Accepted} {r r′ : Outcome} {s s′ : List ℤ} {o o′ : List ℕ} → Comes-to text readings budget stack out a r s o → Comes-to text readings budget stack out a r′ s′ o′ → (r ≡ r′) × (s ≡ s′) × (o ≡ o′)
   same (refused-so why p) (refused-so _ _) = (refl, refl, refl)
-  same (stack-too-short a h) (stack-too-short _ i) = (refl, refl, refl)
-  same (stack-too-short a h) (ran _ x i w) = absurd (omega arith)
-  same (ran a x i w) (stack-too-short _ h) = absurd (omega arith)
-  same (ran a x i w) (ran _ y j v) = let e = only-one w v in (ap outcome.Ran (e .0), e .1 .0, e .1 .1)
+  same (ran a x w f) (ran _ y v g) = let e = only-one w v in (ap outcome.Ran (e .0), e .1 .0, e .1 .1)
 
-  pub unique : {a : Answer Accepted} {r r′ : Outcome} {table′ table″ stack′ stack″ : List ℤ} {out′ out″ : List ℕ} → Outcome-of readings budget stack out a n r table′ stack′ out′ → Outcome-of readings budget stack out a n r′ table″ stack″ out″ → (r ≡ r′) × (table′ ≡ table″) × (stack′ ≡ stack″) × (out′ ≡ out″)
-  unique p q = let e = same (p .comes) (q .comes) in (e .0, p .numbers ∙ sym (q .numbers), e .1, e .2)
+  abbrev Comes : Limits → ℕ → Outcome → List ℤ → List ℤ → List ℕ → Type 0
+  Comes limits n r table′ stack′ out′ = With-answer (Compiled limits text n) (Outcome-of text readings budget stack out n r table′ stack′ out′)
+
+  pub unique : (limits : Limits) (n : ℕ) {r r′ : Outcome} {table′ table″ stack′ stack″ : List ℤ} {out′ out″ : List ℕ} → Comes limits n r table′ stack′ out′ → Comes limits n r′ table″ stack″ out″ → (r ≡ r′) × (table′ ≡ table″) × (stack′ ≡ stack″) × (out′ ≡ out″)
+  unique limits n p q =
+      let b = both (λ a c. one-compiled limits text n) p q in
+      let e = same (b .1 .comes) (b .2 .comes) in
+      (e .0, b .1 .numbers ∙ sym (b .2 .numbers), e .1, e .2)
+
+-- and that of `to_send` one result
+pub send-unique : (ending size : ℕ) (out s s′ : List ℕ) → s ≡ sendable ending size out → s′ ≡ sendable ending size out → s ≡ s′
+send-unique ending size out s s′ e e′ = e ∙ sym e′

@@ -2,7 +2,7 @@
 ghost use mathlib.Core.Path.{_≡_};
 ghost use lib.ListN.{length};
 ghost use Rattle.limits.specs.Limits.{Sizes};
-ghost use Rattle.compiler.specs.Compiled.{compiled};
+ghost use Rattle.compiler.specs.Compiled.{Compiled, With-answer};
 ghost use Rattle.kit.specs.Kit.{Outcome-of, sendable};
 use base::Refusal;
 use limits::Limits;
@@ -14,11 +14,9 @@ pub enum Outcome {
     Ran(Report),
     // It was refused: why, and the place.
     Refused(Refusal, usize),
-    // It needs so large a stack, and the lent one is shorter.
-    Needs(usize),
 }
 
-// Compiles a text and runs its code. The table is the compiler's and is left with the code; nothing of it shows in what comes of the text.
+// Compiles a text and runs its own code, which is the counted pairs of the table and no more.
 pub fn run_text(
     text: &[u8],
     readings: &[i32],
@@ -29,15 +27,12 @@ pub fn run_text(
 ) -> Outcome
     ghost { Sizes }
     requires { λ sizes. do ⌜ record { word = (← ⟦Limits::WORD⟧); string = (← ⟦Limits::STRING⟧); literal = (← ⟦Limits::LITERAL⟧) } ≡ sizes ⌝ }
-    ensures { λ sizes r. do ⌜ Outcome-of (now (readings .entry)) budget (now (stack .entry)) (now (out .entry)) (compiled (record { text = (← ⟦Limits::TEXT⟧ .entry); sizes = sizes; nesting = (← ⟦Limits::NESTING⟧ .entry); declarations = (← ⟦Limits::DECLARATIONS⟧ .entry); instructions = (← ⟦Limits::INSTRUCTIONS⟧ .entry) }) (now (text .entry)) (length (now (table .entry)))) (length (now (table .entry))) r (now (table .exit)) (now (stack .exit)) (now (out .exit)) ⌝ }
+    ensures { λ sizes r. do ⌜ With-answer (Compiled (record { text = (← ⟦Limits::TEXT⟧ .entry); sizes = sizes; nesting = (← ⟦Limits::NESTING⟧ .entry); declarations = (← ⟦Limits::DECLARATIONS⟧ .entry); instructions = (← ⟦Limits::INSTRUCTIONS⟧ .entry) }) (now (text .entry)) (length (now (table .entry)))) (Outcome-of (now (text .entry)) (now (readings .entry)) budget (now (stack .entry)) (now (out .entry)) (length (now (table .entry))) r (now (table .exit)) (now (stack .exit)) (now (out .exit))) ⌝ }
 {
     let a = compiler::compile(text, table);
     match a {
         Answer::Refused(why, place) => Outcome::Refused(why, place),
         Answer::Accepted(counts) => {
-            if stack.len() < counts.need {
-                return Outcome::Needs(counts.need);
-            }
             let end = counts.instructions * 2;
             Outcome::Ran(machine::run(text, &table[..end], readings, budget, stack, out))
         }

@@ -1,8 +1,8 @@
 -- The lexemes of a text, each read after the one before it. Assumes nothing.
-use mathlib.Core.Path.{_≡_, refl, sym, subst, _∙_}
-use mathlib.Core.List.{List, [], _∷_}
+use mathlib.Core.Path.{_≡_, refl, sym, ap, subst, _∙_}
+use mathlib.Core.List.{List, [], _∷_, _++_}
 use mathlib.Core.Bool.{Bool, true, false}
-use Prim.Native.Nat.{ℕ, zero, suc, _-_, _≤_, _<_, min}
+use Prim.Native.Nat.{ℕ, zero, suc, _-_, _≤_, _<_, min, zero-le}
 use native.Mathlib.Omega.{arith}
 use lib.ListN.{length}
 use Rattle.base.specs.declared.Refusal.{Refusal}
@@ -15,7 +15,7 @@ use borrow.Author.Tests.{ltb-false}
 use Rattle.lexeme.specs.declared.Lexeme.{Lexeme}
 use Rattle.lexeme.specs.declared.Found.the-variants.{Is, Refused}
 use Rattle.lexeme.proofs.Decoded.{told-fixed}
-use Rattle.lexeme.proofs.Places.{code-lexeme, next-fits, next-no-end, next-placed}
+use Rattle.lexeme.proofs.Places.{code-lexeme, next-fits, next-nothing, next-no-end, next-placed}
 use Rattle.lexeme.proofs.Symbols.{Each, nil, _also_}
 use Rattle.lexeme.proofs.Scans.{from-one, from-large, from-none, from-refused}
 
@@ -35,40 +35,80 @@ is-number most small (class x) t v h = let z : _≡_ {A = ℕ} 0 1 = cc in absur
 is-number most small (string q) t v h = let z : _≡_ {A = ℕ} 0 1 = cc in absurd (omega arith)
 is-number most small (fixed f) t v h = let z : _≡_ {A = ℕ} 0 1 = cc in absurd (omega arith)
 
-module _ (most : Sizes) (text : List ℕ) (small : most .literal ≤ 2147483647) where
+module _ (most : Sizes) (text : List ℕ) where
+  -- lexemes in a row from a place on: each stands next after the one before it and is not too large, and the last is the end, at the text's length
+  pub data Row : ℕ → List Placed → Type 0 where
+    ended : {at : ℕ} → next text at ≡ given (nothing (length text)) → Row at (record { place = length text; what = fixed end } ∷ [])
+    one : {at : ℕ} (m : Placed) (e : ℕ) {ls : List Placed} → next text at ≡ given (lexeme m e) → too-large most (m .what) ≡ false → Row e ls → Row at (m ∷ ls)
+
   -- by what stands next, where the lexemes further on are known
-  by-next : (fuel at : ℕ) (ls : List Placed) → ((e : ℕ) (rest : List Placed) → at < e → e ≤ length text → lexemes-from most text fuel e ≡ given rest → From text e rest)
-      → lexemes-from most text (suc fuel) at ≡ given ls → From text at ls
-  unfolding coded pass kind-of
-  by-next fuel at ls further is = by-answer (next text at) refl
+  by-next : (fuel at : ℕ) (ls : List Placed) → at ≤ length text → ((e : ℕ) (rest : List Placed) → at < e → e ≤ length text → lexemes-from most text fuel e ≡ given rest → Row e rest)
+      → lexemes-from most text (suc fuel) at ≡ given ls → Row at ls
+  unfolding pass
+  by-next fuel at ls within further is = by-answer (next text at) refl
     where
-      one-more : (m : Placed) (e : ℕ) → next text at ≡ given (lexeme m e) → too-large most (m .what) ≡ false → (r : Answer (List Placed)) → lexemes-from most text fuel e ≡ r → pass r (λ rest. given (m ∷ rest)) ≡ given ls → From text at ls
+      one-more : (m : Placed) (e : ℕ) → next text at ≡ given (lexeme m e) → too-large most (m .what) ≡ false → (r : Answer (List Placed)) → lexemes-from most text fuel e ≡ r → pass r (λ rest. given (m ∷ rest)) ≡ given ls → Row at ls
       one-more m e n t (given rest) r k =
           let f = next-fits text at m e n in
-          let later = further e rest (omega arith) (f .1 .within) r in
-          let split : placed text (code-lexeme m e) ∷ rest ≡ ls = cc (next-placed text at m e n most (omega arith) t) in
-          (code-lexeme m e, rw n, subst (Ahead text (code-lexeme m e)) split (more (code-lexeme m e) (later .0) rest (next-no-end text at m e n) (is-number most small (m .what) t) (later .1) (later .2)))
+          let split : m ∷ rest ≡ ls = cc in
+          subst (Row at) split (one m e n t (further e rest (omega arith) (f .1 .within) r))
       one-more m e n t (refused why p) r k = absurd (no-refusal k)
 
-      by-size : (m : Placed) (e : ℕ) → next text at ≡ given (lexeme m e) → (t : Bool) → too-large most (m .what) ≡ t → From text at ls
+      by-size : (m : Placed) (e : ℕ) → next text at ≡ given (lexeme m e) → (t : Bool) → too-large most (m .what) ≡ t → Row at ls
       by-size m e n true t = absurd (no-refusal (sym (from-large most text fuel at m e n t) ∙ is))
       by-size m e n false t = one-more m e n t (lexemes-from most text fuel e) refl (sym (from-one most text fuel at m e n t) ∙ is)
 
-      by-answer : (a : Answer Next) → next text at ≡ a → From text at ls
+      by-answer : (a : Answer Next) → next text at ≡ a → Row at ls
       by-answer (given (lexeme m e)) n = by-size m e n (too-large most (m .what)) refl
       by-answer (given (nothing p)) n =
-          let l : Lexeme = code-lexeme (record { place = p; what = fixed end }) p in
-          let split : placed text l ∷ [] ≡ ls = cc (told-fixed text l end refl, from-none most text fuel at p n) in
-          (l, rw n, subst (Ahead text l) split (last l refl))
+          let w = next-nothing text at p within n in
+          let split : record { place = length text; what = fixed end } ∷ [] ≡ ls = cc (from-none most text fuel at p n) in
+          subst (Row at) split (ended (rw w at n))
       by-answer (refused why p) n = absurd (no-refusal (sym (from-refused most text fuel at why p n) ∙ is))
 
-  ahead-from : (fuel at : ℕ) (ls : List Placed) → length text - at < fuel → lexemes-from most text fuel at ≡ given ls → From text at ls
-  ahead-from zero at ls enough is = absurd (omega arith)
-  ahead-from (suc fuel) at ls enough is = by-next fuel at ls (λ e rest after within r. ahead-from fuel e rest (omega arith) r) is
+  row-from : (fuel at : ℕ) (ls : List Placed) → at ≤ length text → length text - at < fuel → lexemes-from most text fuel at ≡ given ls → Row at ls
+  row-from zero at ls within enough is = absurd (omega arith)
+  row-from (suc fuel) at ls within enough is = by-next fuel at ls within (λ e rest after h r. row-from fuel e rest h (omega arith) r) is
+
+  pub in-a-row : (ls : List Placed) → lexemes most text ≡ given ls → Row 0 ls
+  unfolding lexemes
+  in-a-row ls is = row-from (suc (length text)) 0 ls zero-le (omega arith) is
+
+  row-ends : {at : ℕ} {ls : List Placed} → Row at ls → (before : List Placed) × (ls ≡ before ++ record { place = length text; what = fixed end } ∷ [])
+  row-ends (ended n) = ([], refl)
+  row-ends (one m e n t r) = let h = row-ends r in (m ∷ h .0, ap (λ ls. m ∷ ls) (h .1))
+
+  -- the lexemes of a text end with the end, at its length
+  pub lexemes-end : (ls : List Placed) → lexemes most text ≡ given ls → (before : List Placed) × (ls ≡ before ++ record { place = length text; what = fixed end } ∷ [])
+  lexemes-end ls is = row-ends (in-a-row ls is)
+
+  -- ---- what holds of each
+
+  module _ (P : lexemes.Lexeme → Type 0) (holds : (at : ℕ) (m : Placed) (e : ℕ) → next text at ≡ given (lexeme m e) → P (m .what)) (at-end : P (fixed end)) where
+    abbrev Each-one : List Placed → Type 0
+    Each-one ls = Each (λ (l : Placed). P (l .what)) ls
+
+    row-each : {at : ℕ} {ls : List Placed} → Row at ls → Each-one ls
+    row-each (ended n) = at-end also nil
+    row-each (one {at} m e n t r) = holds at m e n also row-each r
+
+    pub lexemes-each : (ls : List Placed) → lexemes most text ≡ given ls → Each-one ls
+    lexemes-each ls is = row-each (in-a-row ls is)
+
+-- ---- as the code reads them
+
+module _ {most : Sizes} {text : List ℕ} (small : most .literal ≤ 2147483647) where
+  row-ahead : {at : ℕ} {ls : List Placed} → Row most text at ls → From text at ls
+  unfolding coded kind-of
+  row-ahead (ended n) =
+      let l : Lexeme = code-lexeme (record { place = length text; what = fixed end }) (length text) in
+      (l, rw n, rw (← told-fixed text l end refl) (last l refl))
+  row-ahead (one {at} m e {ls} n t r) =
+      let later = row-ahead r in
+      (code-lexeme m e, rw n, subst (λ (x : Placed). Ahead text (code-lexeme m e) (x ∷ ls)) (next-placed text at m e n most (omega arith) t) (more (code-lexeme m e) (later .0) ls (next-no-end text at m e n) (is-number most small (m .what) t) (later .1) (later .2)))
 
 pub lexemes-ahead : (most : Sizes) (text : List ℕ) (ls : List Placed) → most .literal ≤ 2147483647 → lexemes most text ≡ given ls → From text 0 ls
-unfolding lexemes
-lexemes-ahead most text ls small is = ahead-from most text small (suc (length text)) 0 ls (omega arith) is
+lexemes-ahead most text ls small is = row-ahead small (in-a-row most text ls is)
 
 -- ---- how they begin, and go on
 
@@ -87,34 +127,3 @@ module _ {text : List ℕ} where
   pub not-ahead : {l : Lexeme} {ls : List Placed} → (Ends l → ⊥) → (why : Refusal) (p : ℕ) → Refused why p ≡ coded (next text (l .end)) → Ahead text l ls → ⊥
   not-ahead n why p h (last l ends) = n ends
   not-ahead n why p h (more l k ls _ _ is a) = let z : _≡_ {A = ℕ} 0 1 = cc in omega arith
-
--- ---- what holds of each
-
-module _ (most : Sizes) (text : List ℕ) (P : lexemes.Lexeme → Type 0) (holds : (at : ℕ) (m : Placed) (e : ℕ) → next text at ≡ given (lexeme m e) → P (m .what)) (at-end : P (fixed end)) where
-  abbrev Each-one : List Placed → Type 0
-  Each-one ls = Each (λ (l : Placed). P (l .what)) ls
-
-  each-from : (fuel at : ℕ) (ls : List Placed) → lexemes-from most text fuel at ≡ given ls → Each-one ls
-  unfolding lexemes-from pass
-  each-from zero at ls is = let e : [] ≡ ls = cc in subst Each-one e nil
-  each-from (suc fuel) at ls is = by-answer (λ e rest. each-from fuel e rest) (next text at) refl
-    where
-      Later : Type 0
-      Later = (e : ℕ) (rest : List Placed) → lexemes-from most text fuel e ≡ given rest → Each-one rest
-
-      one-more : Later → (m : Placed) (e : ℕ) → next text at ≡ given (lexeme m e) → (r : Answer (List Placed)) → lexemes-from most text fuel e ≡ r → pass r (λ rest. given (m ∷ rest)) ≡ given ls → Each-one ls
-      one-more later m e n (given rest) r k = let z : m ∷ rest ≡ ls = cc in subst Each-one z (holds at m e n also later e rest r)
-      one-more later m e n (refused why p) r k = absurd (no-refusal k)
-
-      by-size : Later → (m : Placed) (e : ℕ) → next text at ≡ given (lexeme m e) → (t : Bool) → too-large most (m .what) ≡ t → Each-one ls
-      by-size later m e n true t = absurd (no-refusal (sym (from-large most text fuel at m e n t) ∙ is))
-      by-size later m e n false t = one-more later m e n (lexemes-from most text fuel e) refl (sym (from-one most text fuel at m e n t) ∙ is)
-
-      by-answer : Later → (a : Answer Next) → next text at ≡ a → Each-one ls
-      by-answer later (given (lexeme m e)) n = by-size later m e n (too-large most (m .what)) refl
-      by-answer later (given (nothing p)) n = let z : record { place = p; what = fixed end } ∷ [] ≡ ls = cc (from-none most text fuel at p n) in subst Each-one z (at-end also nil)
-      by-answer later (refused why p) n = absurd (no-refusal (sym (from-refused most text fuel at why p n) ∙ is))
-
-  pub lexemes-each : (ls : List Placed) → lexemes most text ≡ given ls → Each-one ls
-  unfolding lexemes
-  lexemes-each ls is = each-from (suc (length text)) 0 ls is

@@ -227,7 +227,7 @@ module _ (text : List ℕ) (at : ℕ) where
       let g : (m .place ≡ start) × Fits text m e = subst (Good text start) n (here-good text start) in
       (omega (arith, g .0), g .1)
 
-  next-nothing : (q : ℕ) → at ≤ length text → next text at ≡ given (nothing q) → q ≡ length text
+  pub next-nothing : (q : ℕ) → at ≤ length text → next text at ≡ given (nothing q) → q ≡ length text
   unfolding next
   next-nothing q h n =
       let g : (q ≡ start) × (length text ≤ start) = subst (Good text start) n (here-good text start) in

@@ -9,13 +9,13 @@ use native.Mathlib.Omega.{arith}
 use lib.IntN.{ℤ, pos}
 use lib.ListN.{length}
 use Rattle.sentence.specs.Sentences.{plus, minus, Kind, Sen, factor, term, expression, condition, command, commands, literal, variable, bracket, first, multiply, unsigned, signed, add, negated, compare, print, print-line, print-string, declare, input, assign, error, while, when, block, single, then}
-use Rattle.sentence.specs.Parts.{Each}
+use Rattle.sentence.proofs.Parts.{Each}
 use Rattle.instruction.specs.Endings.{stopped-by-ERROR}
 use Rattle.instruction.specs.Numbers.{Two-sided, calculate}
 use Rattle.instruction.specs.Instructions.{two-sided, jump, jump-if-false}
 use Rattle.machine.specs.Machine.{Lent, pairs, fetched}
 use Rattle.meaning.specs.Layout.{of-mul, of-sign, of-rel, size, code, need}
-use Rattle.meaning.specs.Fits.{Fits}
+use Rattle.meaning.proofs.Fits.{Fits}
 use Rattle.meaning.specs.Meaning.{Act, _>>=_, _>>_, unit, result, Value, signed-value, rounds, mean}
 use Rattle.meaning.proofs.Laid.{Holds, holds-next, holds-code}
 use Rattle.meaning.proofs.Leads.{Leads, here, bind, seq, moved, first-step, step-on, fuelled, pushes, loads, stores, calculates, minuses, negates, halts, prints-number, prints-string, prints-line, reads, jumps, chooses}

@@ -1,3 +1,4 @@
+pub mod Fits
 pub mod Cells
 pub mod Laid
 pub mod Leads

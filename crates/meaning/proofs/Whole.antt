@@ -13,7 +13,7 @@ use Rattle.machine.specs.Machine.{Lent, untouched, fresh, pushed, pairs, names-
 use Rattle.machine.proofs.Tried.{works}
 use Rattle.machine.proofs.Pairs.{even, pairs-are, fetched-is}
 use Rattle.meaning.specs.Layout.{size, program-code, program-need}
-use Rattle.meaning.specs.Fits.{Fits}
+use Rattle.meaning.proofs.Fits.{Fits}
 use Rattle.meaning.specs.Meaning.{Store, start, Outcome, done, ended, after, _>>_, give, end-with, unit, declarations, program, meaning}
 use Rattle.meaning.proofs.Cells.{cells, length-cells}
 use Rattle.meaning.proofs.Laid.{laid-program, Holds, holds-split, holds-code, holds-all}

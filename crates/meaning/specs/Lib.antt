@@ -1,4 +1,3 @@
 pub mod Layout
-pub mod Fits
 pub mod Meaning
 pub mod Cost

@@ -12,7 +12,7 @@ use Rattle.base.specs.Answers.{Answer, given, refused, pass}
 use Rattle.base.specs.Bytes.{same}
 use Rattle.lexeme.specs.Lexemes.{Name, Quoted}
 use Rattle.sentence.specs.Sentences.{Kind, Sen, command, literal, variable, bracket, first, multiply, unsigned, signed, add, negated, compare, print, print-line, print-string, declare, input, assign, error, while, when, block, single, then}
-use Rattle.sentence.specs.Parts.{Each}
+use Rattle.sentence.proofs.Parts.{Each}
 use Rattle.names.specs.Names.{Declaration, Scope, nothing-declared, Known, Naming, _>>=_, give, look-up, used, one-more, declared-here, opened, closed, scoped, resolve, resolved}
 
 -- each declaration has a cell of its own, so there are as many of these as of those

@@ -5,14 +5,13 @@ use Prim.Native.Nat.{ℕ, _*_}
 use lib.Dec.{eqb}
 use lib.IntN.{ℤ}
 use lib.ListN.{length}
-use Rattle.limits.specs.Limits.{Limits, Station}
+use Rattle.limits.specs.Limits.{Limits}
 use Rattle.base.specs.Answers.{Answer, given, refused, pass}
 use Rattle.instruction.specs.Endings.{normal}
 use Rattle.instruction.specs.Instructions.{numbers}
 use Rattle.machine.specs.Machine.{Report}
-use Rattle.compiler.specs.Compiled.{Accepted, compiled, code-of-text}
-use Rattle.kit.specs.Kit.{worked-out, need-of, sendable}
-use Rattle.readings.specs.Readings.{readings}
+use Rattle.compiler.specs.Compiled.{Accepted, code-of-text, need-of, Compiled}
+use Rattle.kit.specs.Kit.{worked-out, sendable}
 use Rattle.lines.specs.Lines.{line-end, refused-line, ending-line, accepted-line, table-lines}
 
 -- on standard output, on standard error, and by its status
@@ -29,26 +28,19 @@ not-good = 1
 
 -- ---- what comes of a text
 
--- the text, with a code table for the most instructions
-unfoldable pub tabled : Limits → List ℕ → Answer Accepted
-tabled limits text = compiled limits text (limits .instructions * 2)
+-- the answer to a text, with a code table for the most instructions
+abbrev pub Tabled : Limits → List ℕ → Answer Accepted → Type 0
+Tabled limits text = Compiled limits text (limits .instructions * 2)
 
--- the text, run on readings: what is reported, by its sentences alone
-unfoldable pub came : Limits → ℕ → ℕ → List ℕ → List ℤ → Answer Report
-came limits budget room text zs = pass (tabled limits text) λ a. given (worked-out zs room budget a)
-
--- the text, run on the readings of an input
-unfoldable pub came-on : Limits → Station → List ℕ → List ℕ → Answer Report
-came-on limits s text input = came limits (s .budget) (s .room) text (readings (s .readings) input)
+-- an accepted text, run on readings with a budget and an output room: what is reported, by its sentences alone
+unfoldable pub came : ℕ → ℕ → List ℤ → Answer Accepted → Answer Report
+came budget room readings a = pass a λ x. given (worked-out readings room budget x)
 
 -- ---- the first program: the accepted line and a line for each instruction, or the refusal's line; its status is good exactly when the text is accepted
 
 unfoldable pub listed : Answer Accepted → Said
 listed (given a) = record { out = accepted-line (length (code-of-text a)) (a .cells) (need-of a) ++ table-lines (numbers (code-of-text a)); err = []; status = good }
 listed (refused why p) = record { out = refused-line why p; err = []; status = not-good }
-
-unfoldable pub listing : Limits → List ℕ → Said
-listing limits text = listed (tabled limits text)
 
 -- ---- the second program: the output, a line end, and how the run ended, or the refusal's line; its status is good exactly with ending 0
 
@@ -59,14 +51,8 @@ unfoldable pub said-of-run : Answer Report → Said
 said-of-run (given r) = record { out = r .output ++ line-end ++ ending-line (r .ending) (r .steps); err = []; status = status-of (r .ending) }
 said-of-run (refused why p) = record { out = refused-line why p; err = []; status = not-good }
 
-unfoldable pub station : Limits → Station → List ℕ → List ℕ → Said
-station limits s text input = said-of-run (came-on limits s text input)
-
 -- ---- for the feed: only what may be sent; on standard error, how any other run ended; its status is good exactly when the output may be sent
 
 unfoldable pub sent : Answer Report → Said
 sent (given r) = record { out = sendable (r .ending) (length (r .output)) (r .output); err = cond (eqb (r .ending) normal) [] (ending-line (r .ending) (r .steps)); status = status-of (r .ending) }
 sent (refused why p) = record { out = []; err = refused-line why p; status = not-good }
-
-unfoldable pub feed : Limits → Station → List ℕ → List ℕ → Said
-feed limits s text input = sent (came-on limits s text input)

@@ -3,7 +3,8 @@ ghost use mathlib.Core.Path.{_≡_};
 ghost use mathlib.Core.List.{[]};
 ghost use lib.ListN.{length, take};
 ghost use Rattle.limits.specs.Limits.{Sizes};
-ghost use Rattle.programs.specs.Programs.{tabled, came, listed, status-of, said-of-run, sent};
+ghost use Rattle.compiler.specs.Compiled.{With-answer};
+ghost use Rattle.programs.specs.Programs.{Tabled, came, listed, status-of, said-of-run, sent};
 ghost use Rattle.programs.specs.Writes.{Given, Writes, Comes, Tells, with-output};
 use base::Refusal;
 use kit::Outcome;
@@ -40,7 +41,7 @@ pub enum Came {
 pub fn lesson(text: &[u8], readings: &[i32], room: &mut [u8; Station::ROOM]) -> Came
     ghost { Given }
     requires { λ g. do ⌜ record { sizes = record { word = (← ⟦Limits::WORD⟧); string = (← ⟦Limits::STRING⟧); literal = (← ⟦Limits::LITERAL⟧) }; budget = (← ⟦Station::BUDGET⟧) } ≡ g ⌝ }
-    ensures { λ g r. do ⌜ Comes (now (room .entry)) (came (record { text = (← ⟦Limits::TEXT⟧ .entry); sizes = g .sizes; nesting = (← ⟦Limits::NESTING⟧ .entry); declarations = (← ⟦Limits::DECLARATIONS⟧ .entry); instructions = (← ⟦Limits::INSTRUCTIONS⟧ .entry) }) (g .budget) (length (now (room .entry))) (now (text .entry)) (now (readings .entry))) r (now (room .exit)) ⌝ }
+    ensures { λ g r. do ⌜ With-answer (Tabled (record { text = (← ⟦Limits::TEXT⟧ .entry); sizes = g .sizes; nesting = (← ⟦Limits::NESTING⟧ .entry); declarations = (← ⟦Limits::DECLARATIONS⟧ .entry); instructions = (← ⟦Limits::INSTRUCTIONS⟧ .entry) }) (now (text .entry))) (λ a. Comes (now (room .entry)) (came (g .budget) (length (now (room .entry))) (now (readings .entry)) a) r (now (room .exit))) ⌝ }
 {
     let mut table = [0i32; Limits::INSTRUCTIONS * 2];
     let mut stack = [0i32; Limits::INSTRUCTIONS];
@@ -55,8 +56,6 @@ pub fn lesson(text: &[u8], readings: &[i32], room: &mut [u8; Station::ROOM]) -> 
     match o {
         Outcome::Ran(r) => Came::Ran(r),
         Outcome::Refused(why, place) => Came::Refused(why, place),
-        // never: the need is at most the instructions
-        Outcome::Needs(n) => Came::Refused(Refusal::TooMuchCode, n),
     }
 }
 
@@ -64,7 +63,7 @@ pub fn lesson(text: &[u8], readings: &[i32], room: &mut [u8; Station::ROOM]) -> 
 pub fn listing(text: &[u8], page: &mut [u8; LISTING]) -> Said
     ghost { Sizes }
     requires { λ sizes. do ⌜ record { word = (← ⟦Limits::WORD⟧); string = (← ⟦Limits::STRING⟧); literal = (← ⟦Limits::LITERAL⟧) } ≡ sizes ⌝ }
-    ensures { λ sizes r. do ⌜ Writes (listed (tabled (record { text = (← ⟦Limits::TEXT⟧ .entry); sizes = sizes; nesting = (← ⟦Limits::NESTING⟧ .entry); declarations = (← ⟦Limits::DECLARATIONS⟧ .entry); instructions = (← ⟦Limits::INSTRUCTIONS⟧ .entry) }) (now (text .entry)))) r (now (page .entry)) (now (page .exit)) [] [] ⌝ }
+    ensures { λ sizes r. do ⌜ With-answer (Tabled (record { text = (← ⟦Limits::TEXT⟧ .entry); sizes = sizes; nesting = (← ⟦Limits::NESTING⟧ .entry); declarations = (← ⟦Limits::DECLARATIONS⟧ .entry); instructions = (← ⟦Limits::INSTRUCTIONS⟧ .entry) }) (now (text .entry))) (λ a. Writes (listed a) r (now (page .entry)) (now (page .exit)) [] []) ⌝ }
 {
     let mut table = [0i32; Limits::INSTRUCTIONS * 2];
     let a = compiler::compile(text, &mut table);
@@ -137,7 +136,7 @@ pub fn station(
 ) -> Said
     ghost { Given }
     requires { λ g. do ⌜ record { sizes = record { word = (← ⟦Limits::WORD⟧); string = (← ⟦Limits::STRING⟧); literal = (← ⟦Limits::LITERAL⟧) }; budget = (← ⟦Station::BUDGET⟧) } ≡ g ⌝ }
-    ensures { λ g r. do ⌜ Tells said-of-run (came (record { text = (← ⟦Limits::TEXT⟧ .entry); sizes = g .sizes; nesting = (← ⟦Limits::NESTING⟧ .entry); declarations = (← ⟦Limits::DECLARATIONS⟧ .entry); instructions = (← ⟦Limits::INSTRUCTIONS⟧ .entry) }) (g .budget) (length (now (room .entry))) (now (text .entry)) (now (readings .entry))) (now (room .entry)) r (now (room .exit)) (now (page .entry)) (now (page .exit)) [] [] ⌝ }
+    ensures { λ g r. do ⌜ With-answer (Tabled (record { text = (← ⟦Limits::TEXT⟧ .entry); sizes = g .sizes; nesting = (← ⟦Limits::NESTING⟧ .entry); declarations = (← ⟦Limits::DECLARATIONS⟧ .entry); instructions = (← ⟦Limits::INSTRUCTIONS⟧ .entry) }) (now (text .entry))) (λ a. Tells said-of-run (came (g .budget) (length (now (room .entry))) (now (readings .entry)) a) (now (room .entry)) r (now (room .exit)) (now (page .entry)) (now (page .exit)) [] []) ⌝ }
 {
     let c = lesson(text, readings, room);
     tell(c, room, page)
@@ -182,7 +181,7 @@ pub fn feed(
 ) -> Said
     ghost { Given }
     requires { λ g. do ⌜ record { sizes = record { word = (← ⟦Limits::WORD⟧); string = (← ⟦Limits::STRING⟧); literal = (← ⟦Limits::LITERAL⟧) }; budget = (← ⟦Station::BUDGET⟧) } ≡ g ⌝ }
-    ensures { λ g r. do ⌜ Tells sent (came (record { text = (← ⟦Limits::TEXT⟧ .entry); sizes = g .sizes; nesting = (← ⟦Limits::NESTING⟧ .entry); declarations = (← ⟦Limits::DECLARATIONS⟧ .entry); instructions = (← ⟦Limits::INSTRUCTIONS⟧ .entry) }) (g .budget) (length (now (room .entry))) (now (text .entry)) (now (readings .entry))) (now (room .entry)) r (now (room .exit)) (now (page .entry)) (now (page .exit)) (now (note .entry)) (now (note .exit)) ⌝ }
+    ensures { λ g r. do ⌜ With-answer (Tabled (record { text = (← ⟦Limits::TEXT⟧ .entry); sizes = g .sizes; nesting = (← ⟦Limits::NESTING⟧ .entry); declarations = (← ⟦Limits::DECLARATIONS⟧ .entry); instructions = (← ⟦Limits::INSTRUCTIONS⟧ .entry) }) (now (text .entry))) (λ a. Tells sent (came (g .budget) (length (now (room .entry))) (now (readings .entry)) a) (now (room .entry)) r (now (room .exit)) (now (page .entry)) (now (page .exit)) (now (note .entry)) (now (note .exit))) ⌝ }
 {
     let c = lesson(text, readings, room);
     send(c, room, page, note)

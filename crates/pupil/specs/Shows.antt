@@ -4,7 +4,6 @@ use mathlib.Core.List.{List, [], _++_}
 use Prim.Native.Nat.{ℕ}
 use lib.Dec.{eqb}
 use lib.ListN.{length}
-use Rattle.limits.specs.Limits.{Limits, Station}
 use Rattle.base.specs.declared.Refusal.{Refusal}
 use Rattle.base.specs.declared.Refusal.the-variants.{TooLong, NoLexeme, TooLarge, NoProgram, TooDeep, Undeclared, TooManyDeclared, TooMuchCode}
 use Rattle.base.specs.Answers.{Answer, given, refused, number}
@@ -15,7 +14,7 @@ use Rattle.place.specs.Places.{spot}
 use Rattle.place.specs.Shown.{Widths, marked-line}
 use Rattle.words.specs.Words.{why, how}
 use Rattle.words.specs.declared.Numbers.{Numbers}
-use Rattle.programs.specs.Programs.{Said, not-good, status-of, came-on}
+use Rattle.programs.specs.Programs.{Said, not-good, status-of}
 
 -- a text too long and too much code are of the whole text, and their place 0 says nothing
 unfoldable pub has-place : Refusal → Bool
@@ -47,6 +46,3 @@ shown-run n r = shown-output (r .output) ++ steps-taken (r .ending) (r .steps) (
 unfoldable pub shown : Widths → Numbers → List ℕ → Answer Report → Said
 shown w n text (given r) = record { out = shown-run n r; err = []; status = status-of (r .ending) }
 shown w n text (refused r place) = record { out = shown-refusal w n text r place; err = []; status = not-good }
-
-unfoldable pub show : Limits → Station → Widths → Numbers → List ℕ → List ℕ → Said
-show limits s w n text input = shown w n text (came-on limits s text input)

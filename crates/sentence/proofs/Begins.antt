@@ -6,9 +6,9 @@ use Rattle.lexeme.specs.Lexemes.{Name, Quoted, Lexeme, lit, name, string, fixed
 use Rattle.sentence.specs.Sentences.{less, rel, Kind, Sen, expression, command, literal, bracket, first, multiply, unsigned, signed, add, negated, compare, print, print-line, print-string, declare, input, assign, error, while, when, block, single, then}
 use Rattle.sentence.specs.Sentences.{spell, program}
 use Rattle.sentence.specs.Grammar.{Whole, Begins}
-use Rattle.sentence.specs.Reader.{Around, in-first, in-multiply, in-unsigned, in-signed, in-add, in-bracket, in-left, in-right, in-print, in-assign, in-negated, in-while, in-when, in-while-body, in-when-body, in-block, in-block-after, in-program}
-use Rattle.sentence.specs.Reader.{State, want-DO, want-factor, want-expression, want-condition, want-command, want-line, want-string, want-declared, want-read, want-becomes, got-term, got-command, whole, nowhere, step}
-use Rattle.sentence.specs.Reader.{Verdict, verdict, goes-on, is-whole, begins-none}
+use Rattle.sentence.proofs.Reader.{Around, in-first, in-multiply, in-unsigned, in-signed, in-add, in-bracket, in-left, in-right, in-print, in-assign, in-negated, in-while, in-when, in-while-body, in-when-body, in-block, in-block-after, in-program}
+use Rattle.sentence.proofs.Reader.{State, want-DO, want-factor, want-expression, want-condition, want-command, want-line, want-string, want-declared, want-read, want-becomes, got-term, got-command, whole, nowhere, step}
+use Rattle.sentence.proofs.Reader.{Verdict, verdict, goes-on, is-whole, begins-none}
 use Rattle.sentence.proofs.Walk.{walk, went, after, complete, walk-append}
 use Rattle.sentence.proofs.Had.{before, had, alive-at, Alive}
 use Rattle.sentence.proofs.Steps.{good-step}

@@ -9,10 +9,10 @@ use lib.Dec.{T}
 use Rattle.lexeme.specs.Lexemes.{Name, Quoted, Fixed, Lexeme, lit, name, class, string, fixed}
 use Rattle.lexeme.specs.Lexemes.{open-round, open-brace, becomes, DO, IF, INT, NOT, PRINTI, PRINTLNS, PRINTS, READ, THEN, WHILE, end}
 use Rattle.sentence.specs.Sentences.{Kind, sign, mul, rel, spell, program}
-use Rattle.sentence.specs.Reader.{Around, in-first, in-multiply, in-unsigned, in-signed, in-add, in-bracket, in-left, in-right, in-print, in-assign, in-negated, in-while, in-when, in-while-body, in-when-body, in-block, in-block-after, in-program}
-use Rattle.sentence.specs.Reader.{State, want-DO, want-factor, want-expression, want-condition, want-command, want-line, want-string, want-declared, want-read, want-becomes, got-term, got-command, whole, nowhere}
-use Rattle.sentence.specs.Reader.{is, on, on-lit, on-name, on-string}
-use Rattle.sentence.specs.Reader.{Verdict, verdict, goes-on, is-whole, begins-none}
+use Rattle.sentence.proofs.Reader.{Around, in-first, in-multiply, in-unsigned, in-signed, in-add, in-bracket, in-left, in-right, in-print, in-assign, in-negated, in-while, in-when, in-while-body, in-when-body, in-block, in-block-after, in-program}
+use Rattle.sentence.proofs.Reader.{State, want-DO, want-factor, want-expression, want-condition, want-command, want-line, want-string, want-declared, want-read, want-becomes, got-term, got-command, whole, nowhere}
+use Rattle.sentence.proofs.Reader.{is, on, on-lit, on-name, on-string}
+use Rattle.sentence.proofs.Reader.{Verdict, verdict, goes-on, is-whole, begins-none}
 use Rattle.sentence.proofs.Operators.{is-fixed}
 use Rattle.sentence.proofs.Walk.{nested-at}
 

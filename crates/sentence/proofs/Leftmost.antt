@@ -15,7 +15,7 @@ use Rattle.base.specs.Answers.{Answer, given, refused}
 use Rattle.lexeme.specs.Lexemes.{Name, Lexeme, Placed}
 use Rattle.sentence.specs.Sentences.{Sen, command}
 use Rattle.sentence.specs.Grammar.{whats}
-use Rattle.sentence.specs.Reader.{State, whole, step, Verdict, verdict, goes-on, is-whole, begins-none, read-from}
+use Rattle.sentence.proofs.Reader.{State, whole, step, Verdict, verdict, goes-on, is-whole, begins-none, read-from}
 use Rattle.sentence.proofs.Walk.{closes, nested-at, walk, went}
 use Rattle.sentence.proofs.Had.{alive-at, Alive, open-at, going, opens}
 use Rattle.sentence.proofs.Steps.{good-step}

@@ -1,3 +1,5 @@
+pub mod Parts
+pub mod Reader
 pub mod Operators
 pub mod Walk
 pub mod Had

@@ -7,7 +7,7 @@ use lib.Seq.{getD-at}
 use Rattle.lexeme.specs.Lexemes.{Name, Lexeme}
 use Rattle.sentence.specs.Sentences.{Sen, command, program-nestings}
 use Rattle.sentence.specs.Grammar.{Whole}
-use Rattle.sentence.specs.Reader.{State, want-DO, whole, verdict, step}
+use Rattle.sentence.proofs.Reader.{State, want-DO, whole, verdict, step}
 use Rattle.sentence.proofs.Walk.{nested-at, walk, went, after, complete, walk-append}
 
 pub walked : (ls : List Lexeme) (m : Sen Name command) → Whole ls m → walk want-DO ls ≡ record { state = whole m; nested = program-nestings m ++ 0 ∷ [] }

@@ -11,7 +11,7 @@ use Rattle.lexeme.specs.Lexemes.{symbols, keywords, Fixed, Lexeme, lit, name, c
 use Rattle.lexeme.specs.Coded.{code-of, kind-of, fixed-number, fixed-of, fixed-in, fixeds}
 use Rattle.lexeme.proofs.Decoded.{fixed-back, code-of-injective}
 use Rattle.sentence.specs.Sentences.{Sign, plus, minus, Mul, times, over, Rel, less, greater, equal, sign, mul, rel}
-use Rattle.sentence.specs.Reader.{State, is, on, on-sign, on-mul, on-rel, is-sign, is-mul, is-rel}
+use Rattle.sentence.proofs.Reader.{State, is, on, on-sign, on-mul, on-rel, is-sign, is-mul, is-rel}
 
 -- ---- fixed lexemes
 

@@ -13,7 +13,7 @@ use Rattle.lexeme.specs.Lexemes.{Name, Lexeme, Placed, fixed, end}
 use Rattle.lexeme.specs.Coded.{code-of}
 use Rattle.sentence.specs.Sentences.{Sen, command, program-nestings}
 use Rattle.sentence.specs.Grammar.{Whole, Begins, Too-deep, Fault, no-program, too-deep, Faultless, Shallow, whats, Refused}
-use Rattle.sentence.specs.Reader.{State, want-DO, whole, is, step, Verdict, verdict, goes-on, is-whole, begins-none, read}
+use Rattle.sentence.proofs.Reader.{State, want-DO, whole, is, step, Verdict, verdict, goes-on, is-whole, begins-none, read}
 use Rattle.sentence.proofs.Walk.{nested-at, walk, went, walk-append}
 use Rattle.sentence.proofs.Had.{alive-at, Alive, open-at, going, opens}
 use Rattle.sentence.proofs.Steps.{good-step}

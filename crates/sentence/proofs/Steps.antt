@@ -7,10 +7,10 @@ use Rattle.lexeme.specs.Lexemes.{Name, Lexeme, fixed}
 use Rattle.lexeme.specs.Lexemes.{plus-sign, minus-sign, star, slash, less-sign, greater-sign, equals-sign, open-round, close-round, open-brace, close-brace, becomes, DO, ERROR, IF, INT, NOT, PRINTI, PRINTLNS, PRINTS, READ, THEN, WHILE, end}
 use Rattle.sentence.specs.Sentences.{Sen, factor, term, expression, condition, command, commands, literal, variable, bracket, unsigned, signed, add, negated, compare, print, assign, while, when, single, then}
 use Rattle.sentence.specs.Sentences.{sign, mul, rel, spell, program}
-use Rattle.sentence.specs.Reader.{Around, depth, in-first, in-multiply, in-unsigned, in-signed, in-add, in-bracket, in-left, in-right, in-print, in-assign, in-negated, in-while, in-when, in-while-body, in-when-body, in-block, in-block-after, in-program}
-use Rattle.sentence.specs.Reader.{State, want-DO, want-factor, want-expression, want-condition, want-command, want-line, want-string, want-declared, want-read, want-becomes, got-term, got-command, whole, nowhere}
-use Rattle.sentence.specs.Reader.{is, on-sign, on-mul, on-rel, got-factor, at-factor, at-expression, at-condition, at-command, at-command-or-brace, after-command, after-condition, whole-expression, after-expression, whole-term, after-term, step}
-use Rattle.sentence.specs.Reader.{verdict}
+use Rattle.sentence.proofs.Reader.{Around, depth, in-first, in-multiply, in-unsigned, in-signed, in-add, in-bracket, in-left, in-right, in-print, in-assign, in-negated, in-while, in-when, in-while-body, in-when-body, in-block, in-block-after, in-program}
+use Rattle.sentence.proofs.Reader.{State, want-DO, want-factor, want-expression, want-condition, want-command, want-line, want-string, want-declared, want-read, want-becomes, got-term, got-command, whole, nowhere}
+use Rattle.sentence.proofs.Reader.{is, on-sign, on-mul, on-rel, got-factor, at-factor, at-expression, at-condition, at-command, at-command-or-brace, after-command, after-condition, whole-expression, after-expression, whole-term, after-term, step}
+use Rattle.sentence.proofs.Reader.{verdict}
 use Rattle.sentence.proofs.Had.{before, had, open-at, going, opens, Good, stuck, good, deeper, by-word, by-lit, by-name, by-string}
 use Rattle.sentence.proofs.Walk.{closes, nested-at, factor-open}
 

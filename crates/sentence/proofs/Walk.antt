@@ -8,10 +8,10 @@ use Rattle.lexeme.specs.Lexemes.{Name, Lexeme, name, fixed}
 use Rattle.lexeme.specs.Lexemes.{close-round, open-brace, close-brace, DO, ERROR, IF, INT, PRINTI, PRINTLNS, PRINTS, READ, THEN, WHILE, end}
 use Rattle.sentence.specs.Sentences.{Sign, plus, minus, Mul, times, over, Rel, less, greater, equal, sign, mul, rel, Kind, Sen, factor, term, expression, condition, command, commands, literal, variable, bracket, first, multiply, unsigned, signed, add, negated, compare, print, print-line, print-string, declare, input, assign, error, while, when, block, single, then}
 use Rattle.sentence.specs.Sentences.{spell, program, nestings, program-nestings}
-use Rattle.sentence.specs.Reader.{Around, depth, in-first, in-multiply, in-unsigned, in-signed, in-add, in-bracket, in-left, in-right, in-print, in-assign, in-negated, in-while, in-when, in-while-body, in-when-body, in-block, in-block-after, in-program}
-use Rattle.sentence.specs.Reader.{State, want-DO, want-factor, want-expression, want-condition, want-command, got-term, whole}
-use Rattle.sentence.specs.Reader.{is, on, on-lit, on-name, on-string, on-sign, on-mul, on-rel, is-sign, is-mul, got-factor, at-factor, at-expression, at-condition, at-command, at-command-or-brace, after-command, after-condition, whole-expression, after-expression, whole-term, after-term, step}
-use Rattle.sentence.specs.Reader.{Verdict, verdict, goes-on, is-whole, begins-none}
+use Rattle.sentence.proofs.Reader.{Around, depth, in-first, in-multiply, in-unsigned, in-signed, in-add, in-bracket, in-left, in-right, in-print, in-assign, in-negated, in-while, in-when, in-while-body, in-when-body, in-block, in-block-after, in-program}
+use Rattle.sentence.proofs.Reader.{State, want-DO, want-factor, want-expression, want-condition, want-command, got-term, whole}
+use Rattle.sentence.proofs.Reader.{is, on, on-lit, on-name, on-string, on-sign, on-mul, on-rel, is-sign, is-mul, got-factor, at-factor, at-expression, at-condition, at-command, at-command-or-brace, after-command, after-condition, whole-expression, after-expression, whole-term, after-term, step}
+use Rattle.sentence.proofs.Reader.{Verdict, verdict, goes-on, is-whole, begins-none}
 use Rattle.sentence.proofs.Operators.{number-of, on-a-sign, on-no-sign, on-a-mul, on-no-mul, on-a-rel}
 
 -- ---- the walk

@@ -1,4 +1,2 @@
 pub mod Sentences
 pub mod Grammar
-pub mod Reader
-pub mod Parts

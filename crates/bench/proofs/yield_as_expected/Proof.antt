@@ -5,7 +5,7 @@ use Rattle.base.specs.Bytes as Bytes
 use Rattle.lexeme.specs.Coded as Coded
 use Rattle.lexeme.specs.Lexemes as Lexemes
 use Rattle.sentence.specs.Sentences as Sentences
-use Rattle.sentence.specs.Reader as Reader
+use Rattle.sentence.proofs.Reader as Reader
 use Rattle.names.specs.Names as Names
 use Rattle.instruction.specs.Numbers as Numbers
 use Rattle.instruction.specs.Instructions as Instructions

@@ -1,23 +1,15 @@
 -- `programs::lesson` meets its contract. Assumes nothing.
-use Rattle.compiler.specs.Compiled.{compiled}
-use Rattle.programs.specs.Programs.{tabled}
-use Rattle.programs.proofs.Lessons.{came-refused, came-ran, never-needs}
+use Rattle.programs.proofs.Lessons.{came-refused, came-ran}
 use mathlib.Core.Path.{refl}
 use borrow.Author.Needs.{needs}
 use Rattle.programs.proofs.lesson.Statement.{statement}
 use Rattle.programs.proofs.lesson.Tie as tie
 
 returns : tie.Need-returns
-unfolding tabled compiled
-returns c = came-ran _ _ _ _ _ _ refl (rw (c .before .o .given .1) at (c .before .before .before .before .before .run-text .ensures .comes))
+returns c = came-ran refl (rw (@o .given .1) at (@run-text .ensures))
 
 returns-2 : tie.Need-returns-2
-unfolding tabled compiled
-returns-2 c = came-refused _ _ _ _ _ _ refl (rw (c .before .o2 .given .1) at (c .before .before .before .before .before .run-text .ensures .comes))
-
-returns-3 : tie.Need-returns-3
-unfolding tabled compiled
-returns-3 c = absurd (never-needs _ _ _ _ _ _ refl (rw (c .before .o3 .given .1) at (c .before .before .before .before .before .run-text .ensures .comes)))
+returns-2 c = came-refused refl (rw (@o2 .given .1) at (@run-text .ensures))
 
 pub lesson-spec : {M : Type 1} → statement M
 lesson-spec =
@@ -28,7 +20,5 @@ lesson-spec =
     (λ c κs. search needs)
     (λ c. search needs)
     (λ c. search needs)
-    (λ c. search needs)
     returns
-    returns-2
-    returns-3)
+    returns-2)

@@ -18,7 +18,7 @@ use Rattle.lexeme.specs.declared.Kind.{Kind}
 use Rattle.lexeme.specs.declared.Kind.the-variants as kind
 use Rattle.sentence.specs.Sentences as S
 use Rattle.sentence.specs.Sentences.{Sign, plus, minus, sign}
-use Rattle.sentence.specs.Reader.{is-sign, is-mul}
+use Rattle.sentence.proofs.Reader.{is-sign, is-mul}
 use Rattle.sentence.proofs.Operators.{number-of}
 use Rattle.compiler.specs.declared.walk.Walk.{Walk}
 use Rattle.compiler.specs.declared.walk.Gives.{Gives}

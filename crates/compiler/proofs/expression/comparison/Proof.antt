@@ -1,7 +1,7 @@
 -- `compiler::expression::comparison` meets its contract. Assumes nothing.
 use mathlib.Core.Path.{sym, ap, _∙_}
 use native.Mathlib.Nat.{le-refl}
-use Rattle.sentence.specs.Reader.{is-rel}
+use Rattle.sentence.proofs.Reader.{is-rel}
 use Rattle.compiler.specs.Steps.{joined-walk}
 use Rattle.compiler.specs.Walks.{Reads}
 use Rattle.compiler.proofs.Looked.{flag-off, flag-on}

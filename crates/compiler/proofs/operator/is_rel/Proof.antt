@@ -7,7 +7,7 @@ use native.Mathlib.Nat.{eq-or-lt-of-le}
 use native.Mathlib.Omega.{arith}
 use borrow.Author.Tests.{ne-eqb}
 use Rattle.lexeme.specs.Coded.{code-of}
-use Rattle.sentence.specs.Reader.{is-rel}
+use Rattle.sentence.proofs.Reader.{is-rel}
 use Rattle.compiler.proofs.operator.is_rel.Statement.{statement}
 use Rattle.compiler.proofs.operator.is_rel.Tie as tie
 

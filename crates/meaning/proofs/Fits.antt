@@ -5,7 +5,7 @@ use mathlib.Core.Option.{some}
 use Prim.Native.Nat.{ℕ, _<_}
 use Rattle.lexeme.specs.Lexemes.{Quoted}
 use Rattle.sentence.specs.Sentences.{Kind, Sen}
-use Rattle.sentence.specs.Parts.{Each}
+use Rattle.sentence.proofs.Parts.{Each}
 use Rattle.machine.specs.Machine.{string-from}
 
 -- a string stands in the text at its place
