@@ -1,4 +1,5 @@
 -- Document 01, "Bench examples": the starred ones, and document 001's `fac0` (its listings 6.2 and 6.3 and its table 6.3).
+use mathlib.Core.Path.{_≡_}
 use mathlib.Core.List.{List, [], _∷_}
 use Prim.Native.Nat.{ℕ}
 use Prim.Native.String.{String}
@@ -7,14 +8,14 @@ use Rattle.limits.specs.Limits.{Limits}
 use Rattle.base.specs.Answers.{Answer, given, refused, number}
 use Rattle.base.specs.Bytes.{bytes}
 use Rattle.instruction.specs.Instructions.{numbers}
-use Rattle.machine.specs.Machine.{whole-run}
-use Rattle.meaning.specs.Layout.{program-need}
-use Rattle.compiler.specs.Compiled.{Accepted, compiled, code-of-text}
+use Rattle.machine.specs.Machine.{Report, whole-run}
+use Rattle.compiler.specs.Compiled.{Accepted, code-of-text, need-of, Compiled, With-answer}
+use Rattle.kit.specs.Kit.{worked-out}
 
--- what a text and its run come to: a refusal and its place; or the code's numbers, the stack need, the ending, the steps and the output
+-- what a text comes to: a refusal and its place; or the code's numbers, the cells, the stack need, and what its run reports
 pub data Yield : Type 0 where
   refusal : ℕ → ℕ → Yield
-  runs : List ℤ → ℕ → ℕ → ℕ → List ℕ → Yield
+  runs : List ℤ → ℕ → ℕ → Report → Yield
 
 pub record Example : Type 0 where
   pub text : List ℕ
@@ -22,26 +23,32 @@ pub record Example : Type 0 where
   pub budget : ℕ
   pub comes-to : Yield
 
--- the run of a text's own code, on a stack of the reported need, with an output room of 4,096
-unfoldable pub ran : List ℕ → List ℤ → ℕ → Accepted → Yield
-ran text readings budget a =
-    let table = numbers (code-of-text a) in
-    let need = program-need (a .cells) (a .command) in
-    let r = whole-run (record { text = text; table = table; readings = readings; cells = need; room = 4096 }) budget in
-    runs table need (r .ending) (r .steps) (r .output)
+-- what a run of the accepted text reports, by one way or another
+unfoldable pub yield : (Accepted → Report) → Answer Accepted → Yield
+yield way (given a) = runs (numbers (code-of-text a)) (a .cells) (need-of a) (way a)
+yield way (refused why p) = refusal (number why) p
 
-unfoldable pub weighed : List ℕ → List ℤ → ℕ → Answer Accepted → Yield
-weighed text readings budget (given a) = ran text readings budget a
-weighed text readings budget (refused why p) = refusal (number why) p
+-- by the machine: its own code, on a stack of the reported need, with an output room of 4,096
+unfoldable pub by-machine : Example → Accepted → Report
+by-machine e a = whole-run (record { text = e .text; table = numbers (code-of-text a); readings = e .readings; cells = need-of a; room = 4096 }) (e .budget)
 
--- what the definitions yield, with a code table of 8,192 numbers
-unfoldable pub yields : Limits → Example → Yield
-yields lim e = weighed (e .text) (e .readings) (e .budget) (compiled lim (e .text) 8192)
+-- by its sentences
+unfoldable pub by-sentences : Example → Accepted → Report
+by-sentences e a = worked-out (e .readings) 4096 (e .budget) a
 
-abbrev pub expected : Example → Yield
-expected e = e .comes-to
+-- the definitions yield the row by both, with a code table of 8,192 numbers
+abbrev pub Yields : Limits → Example → Type 0
+Yields limits e = With-answer (Compiled limits (e .text) 8192) (λ a. (yield (by-machine e) a ≡ e .comes-to) × (yield (by-sentences e) a ≡ e .comes-to))
+
+unfoldable pub Each-yields : Limits → List Example → Type 0
+Each-yields limits [] = Unit {0}
+Each-yields limits (e ∷ es) = Yields limits e × Each-yields limits es
 
 -- ---- the table
+
+-- ending, steps, readings used, output
+abbrev pub ends : ℕ → ℕ → ℕ → String → Report
+ends e n used out = record { ending = e; steps = n; used = used; output = bytes out }
 
 -- a text that is refused with a number, at a place
 abbrev pub refuses : String → ℕ → ℕ → Example
@@ -79,15 +86,15 @@ starred =
     ∷ refuses "DO { }" 4 5
     ∷ refuses "DO PRINTI n" 6 10
     ∷ refuses "DO PRINTI a1" 2 10
-    ∷ record { text = bytes "DO PRINTI 1/0"; readings = []; budget = 1000000; comes-to = runs (as-numbers ((2, 1) ∷ (2, 0) ∷ (10, 0) ∷ (17, 0) ∷ (1, 0) ∷ [])) 2 5 3 [] }
-    ∷ record { text = bytes "DO PRINTI (0-7)/2"; readings = []; budget = 1000000; comes-to = runs (as-numbers ((2, 0) ∷ (2, 7) ∷ (8, 0) ∷ (2, 2) ∷ (10, 0) ∷ (17, 0) ∷ (1, 0) ∷ [])) 2 0 7 (bytes "-3") }
-    ∷ record { text = bytes "DO { IF 1 > 2 THEN INT n PRINTI n }"; readings = []; budget = 1000000; comes-to = runs (as-numbers ((2, 0) ∷ (2, 1) ∷ (2, 2) ∷ (13, 0) ∷ (6, 7) ∷ (2, 0) ∷ (4, 0) ∷ (3, 0) ∷ (17, 0) ∷ (1, 0) ∷ [])) 3 0 8 (bytes "0") }
-    ∷ record { text = bytes switch; readings = with-reading 1; budget = 1000000; comes-to = runs switch-code 3 1 10 [] }
-    ∷ record { text = bytes switch; readings = with-reading 0; budget = 1000000; comes-to = runs switch-code 3 0 12 (bytes "7") }
-    ∷ record { text = bytes countdown; readings = with-reading 3; budget = 1000000; comes-to = runs countdown-code 3 0 39 (bytes "0") }
-    ∷ record { text = bytes countdown; readings = with-reading 0; budget = 1000000; comes-to = runs countdown-code 3 0 12 (bytes "0") }
-    ∷ record { text = bytes countdown; readings = with-reading 3; budget = 38; comes-to = runs countdown-code 3 2 38 (bytes "0") }
-    ∷ record { text = bytes countdown; readings = with-reading 3; budget = 37; comes-to = runs countdown-code 3 2 37 [] }
+    ∷ record { text = bytes "DO PRINTI 1/0"; readings = []; budget = 1000000; comes-to = runs (as-numbers ((2, 1) ∷ (2, 0) ∷ (10, 0) ∷ (17, 0) ∷ (1, 0) ∷ [])) 0 2 (ends 5 3 0 "") }
+    ∷ record { text = bytes "DO PRINTI (0-7)/2"; readings = []; budget = 1000000; comes-to = runs (as-numbers ((2, 0) ∷ (2, 7) ∷ (8, 0) ∷ (2, 2) ∷ (10, 0) ∷ (17, 0) ∷ (1, 0) ∷ [])) 0 2 (ends 0 7 0 "-3") }
+    ∷ record { text = bytes "DO { IF 1 > 2 THEN INT n PRINTI n }"; readings = []; budget = 1000000; comes-to = runs (as-numbers ((2, 0) ∷ (2, 1) ∷ (2, 2) ∷ (13, 0) ∷ (6, 7) ∷ (2, 0) ∷ (4, 0) ∷ (3, 0) ∷ (17, 0) ∷ (1, 0) ∷ [])) 1 3 (ends 0 8 0 "0") }
+    ∷ record { text = bytes switch; readings = with-reading 1; budget = 1000000; comes-to = runs switch-code 1 3 (ends 1 10 1 "") }
+    ∷ record { text = bytes switch; readings = with-reading 0; budget = 1000000; comes-to = runs switch-code 1 3 (ends 0 12 1 "7") }
+    ∷ record { text = bytes countdown; readings = with-reading 3; budget = 1000000; comes-to = runs countdown-code 1 3 (ends 0 39 1 "0") }
+    ∷ record { text = bytes countdown; readings = with-reading 0; budget = 1000000; comes-to = runs countdown-code 1 3 (ends 0 12 1 "0") }
+    ∷ record { text = bytes countdown; readings = with-reading 3; budget = 38; comes-to = runs countdown-code 1 3 (ends 2 38 1 "0") }
+    ∷ record { text = bytes countdown; readings = with-reading 3; budget = 37; comes-to = runs countdown-code 1 3 (ends 2 37 1 "") }
     ∷ []
 
 -- document 001, listing 6.2
@@ -106,4 +113,4 @@ fac0-code =
 
 -- and table 6.3, its 62 steps for the reading 3
 abbrev pub from-document-001 : List Example
-from-document-001 = record { text = bytes fac0; readings = with-reading 3; budget = 1000000; comes-to = runs fac0-code 4 0 62 (bytes "Please enter a natural number n: n! = 6") } ∷ []
+from-document-001 = record { text = bytes fac0; readings = with-reading 3; budget = 1000000; comes-to = runs fac0-code 2 4 (ends 0 62 1 "Please enter a natural number n: n! = 6") } ∷ []

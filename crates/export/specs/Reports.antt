@@ -1,13 +1,30 @@
--- What a run leaves for the caller: the four numbers, the stack and the room. What compiling leaves: the five numbers and the table.
+-- What C is told: the numbers of a report, and what is left in the table, the stack and the room.
 use mathlib.Core.Path.{_≡_}
+use mathlib.Core.Bool.{cond}
 use mathlib.Core.List.{List, [], _∷_}
 use Prim.Native.Nat.{ℕ}
+use lib.Dec.{eqb}
 use lib.IntN.{ℤ}
 use lib.ListN.{length}
-use Rattle.base.specs.Answers.{Answer}
+use Rattle.base.specs.Answers.{Answer, given, refused, number}
+use Rattle.instruction.specs.Endings.{normal}
 use Rattle.machine.specs.Machine.{Report, room-after, stack-after}
 use Rattle.compiler.specs.Compiled as C
-use Rattle.compiler.specs.Compiled.{summary, table-after}
+use Rattle.compiler.specs.Compiled.{Accepted, summary, table-after}
+use Rattle.kit.specs.Kit.{own-run, Faithful}
+
+-- ---- of compiling
+
+-- number, place, instructions, cells, need
+abbrev pub five : C.Summary → List ℕ
+five w = w .number ∷ (w .place ∷ (w .instructions ∷ (w .cells ∷ (w .need ∷ []))))
+
+-- the five numbers, and the table of n numbers, are those of a
+pub record CompiledInto (n : ℕ) (numbers : List ℕ) (table : List ℤ) (a : Answer Accepted) : Type 0 where
+  pub reported : numbers ≡ five (summary a)
+  pub code : table ≡ table-after n a
+
+-- ---- of a run
 
 -- ending, steps, readings used, output length
 abbrev pub four : Report → List ℕ
@@ -18,11 +35,37 @@ pub record RanInto (w : Report) (cells : List ℤ) (before : List ℕ) (numbers 
   pub stack : cells′ ≡ stack-after (length cells)
   pub room : after ≡ room-after (w .output) before
 
--- number, place, instructions, cells, need
-abbrev pub five : C.Summary → List ℕ
-five w = w .number ∷ (w .place ∷ (w .instructions ∷ (w .cells ∷ (w .need ∷ []))))
+-- ---- of a text compiled and run
 
--- the five numbers, and the table of n numbers, are those of a
-pub record CompiledInto (a : Answer C.Accepted) (n : ℕ) (numbers : List ℕ) (table : List ℤ) : Type 0 where
-  pub reported : numbers ≡ five (summary a)
-  pub code : table ≡ table-after n a
+-- how many bytes of the output may be sent on to the feed
+unfoldable pub may-send : Report → ℕ
+may-send w = cond (eqb (w .ending) normal) (length (w .output)) 0
+
+module _ (text : List ℕ) (readings : List ℤ) (budget : ℕ) (stack : List ℤ) (out : List ℕ) where
+  abbrev own : Accepted → Report
+  own = own-run text readings budget stack out
+
+  -- the refusal's number and place; ending, steps, readings used and output length; how many bytes may be sent
+  unfoldable pub seven : Answer Accepted → List ℕ
+  seven (given a) = 0 ∷ (0 ∷ (own a .ending ∷ (own a .steps ∷ (own a .used ∷ (length (own a .output) ∷ (may-send (own a) ∷ []))))))
+  seven (refused why p) = number why ∷ (p ∷ (0 ∷ (0 ∷ (0 ∷ (0 ∷ (0 ∷ []))))))
+
+  -- a refused text leaves the stack and the room as they were
+  unfoldable pub stack-left : Answer Accepted → List ℤ
+  stack-left (given a) = stack-after (length stack)
+  stack-left (refused why p) = stack
+
+  unfoldable pub room-left : Answer Accepted → List ℕ
+  room-left (given a) = room-after (own a .output) out
+  room-left (refused why p) = out
+
+  unfoldable pub Means : Answer Accepted → Type 0
+  Means (given a) = Faithful text readings budget stack out a
+  Means (refused why p) = Unit {0}
+
+  pub record RanTextInto (n : ℕ) (numbers : List ℕ) (table′ stack′ : List ℤ) (out′ : List ℕ) (a : Answer Accepted) : Type 0 where
+    pub reported : numbers ≡ seven a
+    pub code : table′ ≡ table-after n a
+    pub cells : stack′ ≡ stack-left a
+    pub room : out′ ≡ room-left a
+    pub means : Means a

@@ -4,8 +4,9 @@ ghost use lib.ListN.{length};
 ghost use Rattle.machine.specs.Machine.{whole-run};
 ghost use Rattle.machine.specs.Promise.{lends};
 ghost use Rattle.limits.specs.Limits.{Sizes};
-ghost use Rattle.compiler.specs.Compiled.{compiled};
-ghost use Rattle.export.specs.Reports.{RanInto, CompiledInto};
+ghost use Rattle.compiler.specs.Compiled.{Compiled, With-answer};
+ghost use Rattle.export.specs.Reports.{RanInto, CompiledInto, RanTextInto};
+use kit::Outcome;
 use limits::Limits;
 use tables::Answer;
 
@@ -14,7 +15,7 @@ use tables::Answer;
 pub extern "C" fn o_compile(text: &[u8], table: &mut [i32], report: &mut [u64; 5])
     ghost { Sizes }
     requires { λ sizes. do ⌜ record { word = (← ⟦Limits::WORD⟧); string = (← ⟦Limits::STRING⟧); literal = (← ⟦Limits::LITERAL⟧) } ≡ sizes ⌝ }
-    ensures { λ sizes _. do ⌜ CompiledInto (compiled (record { text = (← ⟦Limits::TEXT⟧ .entry); sizes = sizes; nesting = (← ⟦Limits::NESTING⟧ .entry); declarations = (← ⟦Limits::DECLARATIONS⟧ .entry); instructions = (← ⟦Limits::INSTRUCTIONS⟧ .entry) }) (now (text .entry)) (length (now (table .entry)))) (length (now (table .entry))) (now (report .exit)) (now (table .exit)) ⌝ }
+    ensures { λ sizes _. do ⌜ With-answer (Compiled (record { text = (← ⟦Limits::TEXT⟧ .entry); sizes = sizes; nesting = (← ⟦Limits::NESTING⟧ .entry); declarations = (← ⟦Limits::DECLARATIONS⟧ .entry); instructions = (← ⟦Limits::INSTRUCTIONS⟧ .entry) }) (now (text .entry)) (length (now (table .entry)))) (CompiledInto (length (now (table .entry))) (now (report .exit)) (now (table .exit))) ⌝ }
 {
     let a = compiler::compile(text, table);
     match a {
@@ -48,4 +49,41 @@ pub extern "C" fn o_run(
         r.used as u64,
         r.length as u64,
     ];
+}
+
+// A text compiled into the table, and its own code run. The report is the refusal's number and place; ending, steps, readings used and output length;
+// and how many bytes of the output may be sent on to the feed. A refused text has 0 in the last five.
+#[no_mangle]
+pub extern "C" fn o_run_text(
+    text: &[u8],
+    readings: &[i32],
+    budget: u32,
+    table: &mut [i32],
+    stack: &mut [i32],
+    out: &mut [u8],
+    report: &mut [u64; 7],
+)
+    ghost { Sizes }
+    requires { λ sizes. do ⌜ record { word = (← ⟦Limits::WORD⟧); string = (← ⟦Limits::STRING⟧); literal = (← ⟦Limits::LITERAL⟧) } ≡ sizes ⌝ }
+    ensures { λ sizes _. do ⌜ With-answer (Compiled (record { text = (← ⟦Limits::TEXT⟧ .entry); sizes = sizes; nesting = (← ⟦Limits::NESTING⟧ .entry); declarations = (← ⟦Limits::DECLARATIONS⟧ .entry); instructions = (← ⟦Limits::INSTRUCTIONS⟧ .entry) }) (now (text .entry)) (length (now (table .entry)))) (RanTextInto (now (text .entry)) (now (readings .entry)) budget (now (stack .entry)) (now (out .entry)) (length (now (table .entry))) (now (report .exit)) (now (table .exit)) (now (stack .exit)) (now (out .exit))) ⌝ }
+{
+    let o = kit::run_text(text, readings, budget, table, stack, out);
+    match o {
+        Outcome::Refused(why, place) => {
+            let number = base::number(why);
+            *report = [number as u64, place as u64, 0, 0, 0, 0, 0];
+        }
+        Outcome::Ran(ran) => {
+            let sent = kit::to_send(ran.ending, ran.length, out);
+            *report = [
+                0,
+                0,
+                ran.ending as u64,
+                ran.steps as u64,
+                ran.used as u64,
+                ran.length as u64,
+                sent.len() as u64,
+            ];
+        }
+    }
 }

@@ -35,24 +35,27 @@ need-fits limits text n a c = omega (arith, need-within (a .cells) (a .command),
 
 -- ---- what comes of a text, from what `run_text` promises
 
-module _ {limits : Limits} {text : List ℕ} {zs stack : List ℤ} {budget : ℕ} {room : List ℕ} (cells : length stack ≡ limits .instructions) {table′ stack′ : List ℤ} {room′ : List ℕ} where
-  abbrev Came-so : Outcome → Type 0
-  Came-so o = With-answer (Tabled limits text) (Outcome-of text zs budget stack room (limits .instructions * 2) o table′ stack′ room′)
+module _ (limits : Limits) (text : List ℕ) (zs stack : List ℤ) (budget : ℕ) (room : List ℕ) where
+  abbrev Came-so : Outcome → List ℤ → List ℤ → List ℕ → Type 0
+  Came-so o table′ stack′ room′ = With-answer (Tabled limits text) (Outcome-of text zs budget stack room (limits .instructions * 2) o table′ stack′ room′)
 
-  abbrev Comes-so : Came → Type 0
-  Comes-so c = With-answer (Tabled limits text) (λ a. Comes room (came budget (length room) zs a) c room′)
+  abbrev Comes-so : Came → List ℕ → Type 0
+  Comes-so c room′ = With-answer (Tabled limits text) (λ a. Comes room (came budget (length room) zs a) c room′)
 
-  pub came-refused : {why : Refusal} {p : ℕ} → Came-so (outcome.Refused why p) → Comes-so (came-as.Refused why p)
-  came-refused c = with-answer c (λ a _ o. by (o .comes))
-    where
-      by : {a : Answer Accepted} {why : Refusal} {p : ℕ} → Comes-to text zs budget stack room a (outcome.Refused why p) stack′ room′ → Comes room (came budget (length room) zs a) (came-as.Refused why p) room′
-      by (refused-so why p) = unfold came pass in S.refused-so why p
+  by-refusal : {a : Answer Accepted} {why : Refusal} {p : ℕ} {stack′ : List ℤ} {room′ : List ℕ} → Comes-to text zs budget stack room a (outcome.Refused why p) stack′ room′ → Comes room (came budget (length room) zs a) (came-as.Refused why p) room′
+  unfolding came pass
+  by-refusal (refused-so why p) = S.refused-so why p
 
-  pub came-ran : {r : Code.Report} → Came-so (outcome.Ran r) → Comes-so (came-as.Ran r)
-  came-ran c = with-answer c (λ a g o. by g (o .comes))
-    where
-      by : {a : Answer Accepted} {r : Code.Report} → Tabled limits text a → Comes-to text zs budget stack room a (outcome.Ran r) stack′ room′ → Comes room (came budget (length room) zs a) (came-as.Ran r) room′
-      by g (ran a r w f) = unfold came pass Faithful in S.ran _ r (rw (f (omega (arith, need-fits limits text (limits .instructions * 2) a g, cells))) at (w .reported))
+  pub came-refused : {why : Refusal} {p : ℕ} {table′ stack′ : List ℤ} {room′ : List ℕ} → Came-so (outcome.Refused why p) table′ stack′ room′ → Comes-so (came-as.Refused why p) room′
+  came-refused c = with-answer c (λ a _ o. by-refusal (o .comes))
+
+  module _ (cells : length stack ≡ limits .instructions) where
+    by-run : {a : Answer Accepted} {r : Code.Report} {stack′ : List ℤ} {room′ : List ℕ} → Tabled limits text a → Comes-to text zs budget stack room a (outcome.Ran r) stack′ room′ → Comes room (came budget (length room) zs a) (came-as.Ran r) room′
+    unfolding came pass Faithful
+    by-run g (ran a r w f) = S.ran _ r (rw (f (omega (arith, need-fits limits text (limits .instructions * 2) a g))) at (w .reported))
+
+    pub came-ran : {r : Code.Report} {table′ stack′ : List ℤ} {room′ : List ℕ} → Came-so (outcome.Ran r) table′ stack′ room′ → Comes-so (came-as.Ran r) room′
+    came-ran c = with-answer c (λ a g o. by-run g (o .comes))
 
 -- ---- what came, with its output in the room
 

@@ -21,15 +21,15 @@ use Rattle.programs.specs.Programs.{listed}
 use Rattle.programs.specs.Writes.{Writes}
 use Rattle.programs.proofs.Pages.{said-bytes, said-page, untouched}
 
-module _ {limits : Limits} {text : List ℕ} {n : ℕ} {r : Answer} {table : List ℤ} (w : With-answer (Compiled limits text n) (Compiles n r table)) {page page′ : List ℕ} {end : ℕ} where
-  abbrev Lists : ℕ → Type 0
-  Lists status = With-answer (Compiled limits text n) (λ a. Writes (listed a) (record { out = end; err = 0; status = status }) page page′ [] [])
+abbrev Lists : Limits → List ℕ → ℕ → ℕ → ℕ → List ℕ → List ℕ → Type 0
+Lists limits text n status end page page′ = With-answer (Compiled limits text n) (λ a. Writes (listed a) (record { out = end; err = 0; status = status }) page page′ [] [])
 
-  pub listed-refused : {why : Refusal} {p : ℕ} → r ≡ answer.Refused why p → length (refused-line why p) ≤ length page → Added (refused-line why p) page 0 page′ end → Lists 1
+module _ {limits : Limits} {text : List ℕ} {n : ℕ} {r : Answer} {table : List ℤ} (w : With-answer (Compiled limits text n) (Compiles n r table)) {page page′ : List ℕ} {end : ℕ} where
+  pub listed-refused : {why : Refusal} {p : ℕ} → r ≡ answer.Refused why p → length (refused-line why p) ≤ length page → Added (refused-line why p) page 0 page′ end → Lists limits text n 1 end page page′
   unfolding listed
   listed-refused {why} {p} is short a = record { answer = refused why p; is-given = refused-text w is .0; so = record { written = said-bytes a short; page = said-page a short; noted = refl; note = untouched []; status = refl } }
 
-  pub listed-accepted : {k : Counts} → r ≡ answer.Accepted k → let line = accepted-line (k .instructions) (k .cells) (k .need) ++ table-lines (take (k .instructions * 2) table) in length line ≤ length page → Added line page 0 page′ end → Lists 0
+  pub listed-accepted : {k : Counts} → r ≡ answer.Accepted k → let line = accepted-line (k .instructions) (k .cells) (k .need) ++ table-lines (take (k .instructions * 2) table) in length line ≤ length page → Added line page 0 page′ end → Lists limits text n 0 end page page′
   unfolding listed
   listed-accepted is short a =
       let t = took-text w is in

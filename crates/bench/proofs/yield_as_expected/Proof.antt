@@ -11,8 +11,13 @@ use Rattle.instruction.specs.Numbers as Numbers
 use Rattle.instruction.specs.Instructions as Instructions
 use Rattle.machine.specs.Machine as Machine
 use Rattle.meaning.specs.Layout as Layout
-use Rattle.tables.specs.Tables as Tables
+use Rattle.meaning.specs.Meaning as Meaning
 use Rattle.compiler.specs.Compiled as Compiled
+use Rattle.compiler.specs.Measured as Measured
+use Rattle.compiler.proofs.Judging as Judging
+use Rattle.kit.specs.Kit as Kit
+use Rattle.bench.proofs.Rows as Rows
+use Rattle.bench.proofs.Rows.{rows}
 use Rattle.bench.specs.Examples as Examples
 use Rattle.bench.proofs.yield_as_expected.Statement.{statement}
 use Rattle.bench.proofs.yield_as_expected.Tie as tie
@@ -30,10 +35,11 @@ returns c =
     Numbers.in-range Numbers.is-false Numbers.truth Numbers.calculate Numbers.negation Numbers.digits Numbers.decimal
     Instructions.alone Instructions.natural Instructions.halting Instructions.opcode Instructions.operation Instructions.decode Instructions.number Instructions.encode Instructions.numbers Instructions.takes Instructions.gives
     Machine.string Machine.closed Machine.string-from Machine.reading Machine.one-used Machine.printed Machine.peek Machine.poke Machine.pushed Machine.left-with Machine.jumped Machine.resulting Machine.taken Machine.written Machine.pairs Machine.names-well Machine.prints Machine.does Machine.tried Machine.decoded Machine.fetched Machine.step Machine.run Machine.report Machine.bad-table Machine.whole-run Machine.stack-after Machine.room-after
+    Meaning.after Meaning._>>=_ Meaning._>>_ Meaning.give Meaning.end-with Meaning.unit Meaning.result Meaning.value-of Meaning.assigned Meaning.signed-value Meaning.rounds Meaning.next-reading Meaning.write Meaning.mean Meaning.declarations Meaning.program Meaning.meaning
     Layout.size Layout.code Layout.program-code Layout.need Layout.program-need
-    Compiled.short-enough Compiled.code-of-text Compiled.at-most Compiled.measured Compiled.judged Compiled.compiled Compiled.summary Tables.filled Compiled.table-after
-    Examples.ran Examples.weighed Examples.yields
-    in refl
+    Compiled.code-of-text Compiled.need-of Compiled.over-cells Measured.at-most Measured.measured Judging.short-enough Judging.judged Judging.compiled Kit.worked-out
+    Examples.yield Examples.by-machine Examples.by-sentences Rows.machine-row Rows.sentences-row
+    in rows _ _ refl refl
 
 pub yield-as-expected-spec : {M : Type 1} → statement M
 yield-as-expected-spec = tie.close (tie.spec returns)
