@@ -1,4 +1,4 @@
--- Document 01, "Refused texts": the answer to a text, in the paper's order of refusals; what is reported of it, and what it leaves in the lent code table.
+-- Document 01, "Refused texts": the answer to a text, in the paper's order of refusals, and what it leaves in the lent code table.
 use mathlib.Core.Path.{_≡_}
 use mathlib.Core.List.{List, []}
 use Prim.Native.Nat.{ℕ, _/_, _≤_, _<_}
@@ -7,7 +7,7 @@ use lib.ListN.{length}
 use Rattle.limits.specs.Limits.{Limits}
 use Rattle.base.specs.declared.Refusal.{Refusal}
 use Rattle.base.specs.declared.Refusal.the-variants.{TooLong, TooMuchCode}
-use Rattle.base.specs.Answers.{Answer, given, refused, pass, number}
+use Rattle.base.specs.Answers.{Answer, given, refused, pass}
 use Rattle.lexeme.specs.Lexemes.{Name, Placed, lexemes}
 use Rattle.sentence.specs.Sentences.{Sen, command}
 use Rattle.sentence.specs.Grammar.{whats, Whole, Shallow, Refused}
@@ -74,19 +74,7 @@ pub record With-answer (Given So : Answer Accepted → Type 0) : Type 0 where
   pub is-given : Given answer
   pub so : So answer
 
--- ---- what is reported and what the table holds
-
-pub record Summary : Type 0 where
-  pub number : ℕ
-  pub place : ℕ
-  pub instructions : ℕ
-  pub cells : ℕ
-  pub need : ℕ
-
--- accepted is number 0, with place 0; a refusal reports no counts
-unfoldable pub summary : Answer Accepted → Summary
-summary (given a) = record { number = 0; place = 0; instructions = length (code-of-text a); cells = a .cells; need = need-of a }
-summary (refused why p) = record { number = number why; place = p; instructions = 0; cells = 0; need = 0 }
+-- ---- what the table holds
 
 -- numbers of the table past the code are 0, as is the whole table on refusal
 unfoldable pub table-after : ℕ → Answer Accepted → List ℤ

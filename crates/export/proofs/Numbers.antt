@@ -20,25 +20,25 @@ use Rattle.tables.specs.declared.Answer.{Answer}
 use Rattle.tables.specs.declared.Answer.the-variants.{Accepted, Refused}
 use Rattle.compiler.specs.Answers.{answered, Compiles}
 use Rattle.compiler.specs.Compiled as C
-use Rattle.compiler.specs.Compiled.{summary, With-answer, table-after}
+use Rattle.compiler.specs.Compiled.{With-answer, table-after}
 use Rattle.compiler.proofs.Judging.{with-answer}
 use Rattle.kit.specs.Kit.{own-run, Comes-to, refused-so, ran, Outcome-of, sendable}
 use Rattle.kit.specs.declared.Outcome.{Outcome}
 use Rattle.kit.specs.declared.Outcome.the-variants as outcome
 use Rattle.export.specs.Reports.{RanInto, five, CompiledInto, may-send, seven, stack-left, room-left, Means, RanTextInto}
 
--- the paper's number and values for each case of an answer
-abbrev numbered : Answer → C.Summary
-numbered (Accepted counts) = record { number = 0; place = 0; instructions = counts .instructions; cells = counts .cells; need = counts .need }
-numbered (Refused why p) = record { number = number why; place = p; instructions = 0; cells = 0; need = 0 }
+-- the five numbers of an answer, as the code gives it
+abbrev numbered : Answer → List ℕ
+numbered (Accepted k) = 0 ∷ (0 ∷ (k .instructions ∷ (k .cells ∷ (k .need ∷ []))))
+numbered (Refused why p) = number why ∷ (p ∷ (0 ∷ (0 ∷ (0 ∷ []))))
 
-reports : (a : A.Answer C.Accepted) → numbered (answered a) ≡ summary a
-unfolding answered summary
+reports : (a : A.Answer C.Accepted) → numbered (answered a) ≡ five a
+unfolding answered five
 reports (given x) = refl
 reports (refused why p) = refl
 
-pub compiled-into : {Given : A.Answer C.Accepted → Type 0} {n : ℕ} {r q : Answer} {table : List ℤ} → With-answer Given (Compiles n r table) → r ≡ q → With-answer Given (CompiledInto n (five (numbered q)) table)
-compiled-into w is = with-answer w (λ a _ s. rw (← is, s .answer) (record { reported = ap five (reports a); code = s .numbers }))
+pub compiled-into : {Given : A.Answer C.Accepted → Type 0} {n : ℕ} {r q : Answer} {table : List ℤ} → With-answer Given (Compiles n r table) → r ≡ q → With-answer Given (CompiledInto n (numbered q) table)
+compiled-into w is = with-answer w (λ a _ s. rw (← is, s .answer) (record { reported = reports a; code = s .numbers }))
 
 pub ran-into : {w : Report} {cells cells′ : List ℤ} {before after : List ℕ} (r : Code.Report) → Ran w cells before r cells′ after → RanInto w cells before (r .ending ∷ (r .steps ∷ (r .used ∷ (r .length ∷ [])))) cells′ after
 ran-into r q = let s = q .reported in record { reported = rw (s .ending, s .steps, s .used, s .size); stack = q .stack; room = s .room }

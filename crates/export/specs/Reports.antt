@@ -9,19 +9,19 @@ use lib.ListN.{length}
 use Rattle.base.specs.Answers.{Answer, given, refused, number}
 use Rattle.instruction.specs.Endings.{normal}
 use Rattle.machine.specs.Machine.{Report, room-after, stack-after}
-use Rattle.compiler.specs.Compiled as C
-use Rattle.compiler.specs.Compiled.{Accepted, summary, table-after}
+use Rattle.compiler.specs.Compiled.{Accepted, code-of-text, need-of, table-after}
 use Rattle.kit.specs.Kit.{own-run, Faithful}
 
 -- ---- of compiling
 
--- number, place, instructions, cells, need
-abbrev pub five : C.Summary → List ℕ
-five w = w .number ∷ (w .place ∷ (w .instructions ∷ (w .cells ∷ (w .need ∷ []))))
+-- number, place, instructions, cells, need: accepted is number 0, with place 0; a refusal reports no counts
+unfoldable pub five : Answer Accepted → List ℕ
+five (given a) = 0 ∷ (0 ∷ (length (code-of-text a) ∷ (a .cells ∷ (need-of a ∷ []))))
+five (refused why p) = number why ∷ (p ∷ (0 ∷ (0 ∷ (0 ∷ []))))
 
 -- the five numbers, and the table of n numbers, are those of a
 pub record CompiledInto (n : ℕ) (numbers : List ℕ) (table : List ℤ) (a : Answer Accepted) : Type 0 where
-  pub reported : numbers ≡ five (summary a)
+  pub reported : numbers ≡ five a
   pub code : table ≡ table-after n a
 
 -- ---- of a run

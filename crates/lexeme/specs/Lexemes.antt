@@ -2,7 +2,8 @@
 use mathlib.Core.List.{List, [], _∷_}
 use mathlib.Core.Bool.{Bool, true, false, cond}
 use Prim.Native.Nat.{ℕ, zero, suc, _+_}
-use Prim.Native.Char.{code}
+use Prim.Native.Char.{Char, code}
+use Prim.Native.String.{String}
 use lib.Dec.{leb, ltb, eqb}
 use lib.ListN.{length, drop}
 pub use Rattle.limits.specs.Limits.{Sizes}
@@ -55,31 +56,18 @@ pub record Keyword : Type 0 where
   pub spelled : List ℕ
   pub means : Fixed
 
+abbrev pub keyword : String → Fixed → Keyword
+keyword spelled means = record { spelled = bytes spelled; means = means }
+
 -- in alphabetical order
 unfoldable pub keywords : List Keyword
 keywords =
-    record { spelled = bytes "CALL"; means = CALL }
-    ∷ record { spelled = bytes "CLASS"; means = CLASS }
-    ∷ record { spelled = bytes "DO"; means = DO }
-    ∷ record { spelled = bytes "ERROR"; means = ERROR }
-    ∷ record { spelled = bytes "FIELDS"; means = FIELDS }
-    ∷ record { spelled = bytes "IF"; means = IF }
-    ∷ record { spelled = bytes "INIT"; means = INIT }
-    ∷ record { spelled = bytes "INT"; means = INT }
-    ∷ record { spelled = bytes "METHOD"; means = METHOD }
-    ∷ record { spelled = bytes "NOT"; means = NOT }
-    ∷ record { spelled = bytes "OBJ"; means = OBJ }
-    ∷ record { spelled = bytes "PRINTI"; means = PRINTI }
-    ∷ record { spelled = bytes "PRINTLNS"; means = PRINTLNS }
-    ∷ record { spelled = bytes "PRINTS"; means = PRINTS }
-    ∷ record { spelled = bytes "PROCEDURE"; means = PROCEDURE }
-    ∷ record { spelled = bytes "READ"; means = READ }
-    ∷ record { spelled = bytes "RETURNS"; means = RETURNS }
-    ∷ record { spelled = bytes "SUBCLASSOF"; means = SUBCLASSOF }
-    ∷ record { spelled = bytes "THEN"; means = THEN }
-    ∷ record { spelled = bytes "USING"; means = USING }
-    ∷ record { spelled = bytes "WHILE"; means = WHILE }
-    ∷ []
+    keyword "CALL" CALL ∷ keyword "CLASS" CLASS ∷ keyword "DO" DO ∷ keyword "ERROR" ERROR
+    ∷ keyword "FIELDS" FIELDS ∷ keyword "IF" IF ∷ keyword "INIT" INIT ∷ keyword "INT" INT
+    ∷ keyword "METHOD" METHOD ∷ keyword "NOT" NOT ∷ keyword "OBJ" OBJ ∷ keyword "PRINTI" PRINTI
+    ∷ keyword "PRINTLNS" PRINTLNS ∷ keyword "PRINTS" PRINTS ∷ keyword "PROCEDURE" PROCEDURE ∷ keyword "READ" READ
+    ∷ keyword "RETURNS" RETURNS ∷ keyword "SUBCLASSOF" SUBCLASSOF ∷ keyword "THEN" THEN ∷ keyword "USING" USING
+    ∷ keyword "WHILE" WHILE ∷ []
 
 -- a word that starts with a capital: a keyword if it equals one byte for byte, else a class name
 unfoldable pub capital-word : List Keyword → ℕ → List ℕ → Lexeme
@@ -114,25 +102,16 @@ pub record Symbol : Type 0 where
   pub byte : ℕ
   pub means : Fixed
 
+abbrev pub symbol-of : Char → Fixed → Symbol
+symbol-of byte means = record { byte = code byte; means = means }
+
 -- the fifteen characters
 unfoldable pub symbols : List Symbol
 symbols =
-    record { byte = code "="; means = equals-sign }
-    ∷ record { byte = code ","; means = comma }
-    ∷ record { byte = code "."; means = dot }
-    ∷ record { byte = code ">"; means = greater-sign }
-    ∷ record { byte = code "<"; means = less-sign }
-    ∷ record { byte = code "+"; means = plus-sign }
-    ∷ record { byte = code "-"; means = minus-sign }
-    ∷ record { byte = code "*"; means = star }
-    ∷ record { byte = code "/"; means = slash }
-    ∷ record { byte = code "("; means = open-round }
-    ∷ record { byte = code ")"; means = close-round }
-    ∷ record { byte = code "["; means = open-square }
-    ∷ record { byte = code "]"; means = close-square }
-    ∷ record { byte = code "{"; means = open-brace }
-    ∷ record { byte = code "}"; means = close-brace }
-    ∷ []
+    symbol-of "=" equals-sign ∷ symbol-of "," comma ∷ symbol-of "." dot ∷ symbol-of ">" greater-sign ∷ symbol-of "<" less-sign
+    ∷ symbol-of "+" plus-sign ∷ symbol-of "-" minus-sign ∷ symbol-of "*" star ∷ symbol-of "/" slash
+    ∷ symbol-of "(" open-round ∷ symbol-of ")" close-round ∷ symbol-of "[" open-square ∷ symbol-of "]" close-square
+    ∷ symbol-of "{" open-brace ∷ symbol-of "}" close-brace ∷ []
 
 -- any other byte is no lexeme
 unfoldable pub symbol : List Symbol → ℕ → ℕ → Answer Next
