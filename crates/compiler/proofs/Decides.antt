@@ -27,7 +27,8 @@ use Rattle.names.specs.Names.{Scope, Known, nothing-declared, resolved}
 use Rattle.names.specs.Held.{counts, room, scope-in}
 use Rattle.names.proofs.Held.{nothing-scope}
 use Rattle.instruction.specs.Instructions.{halt, push-int, encode}
-use Rattle.meaning.specs.Layout.{size, need, code, program-code, program-need}
+use Rattle.meaning.specs.Layout.{need, code, program-code, program-need}
+use Rattle.meaning.proofs.Sizes.{size}
 use Rattle.meaning.proofs.Laid.{laid-program}
 use Rattle.compiler.specs.declared.walk.Walk.{Walk}
 use Rattle.compiler.specs.declared.walk.Gives.{Gives}

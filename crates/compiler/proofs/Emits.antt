@@ -9,7 +9,8 @@ use Rattle.sentence.specs.Sentences.{Sign, plus, minus, Mul, times, over, Rel, 
 use Rattle.instruction.specs.Instructions.{Instruction, number}
 use Rattle.tables.specs.Tables.{emit}
 use Rattle.tables.proofs.Emits.{emit-append}
-use Rattle.meaning.specs.Layout.{of-mul, of-sign, of-rel, size, code}
+use Rattle.meaning.specs.Layout.{of-mul, of-sign, of-rel, code}
+use Rattle.meaning.proofs.Sizes.{size}
 use Rattle.meaning.proofs.Laid.{laid}
 use Rattle.compiler.specs.Steps.{operation-number}
 

@@ -19,7 +19,9 @@ use Rattle.names.specs.Held.{room, Sound, Kept}
 use Rattle.names.proofs.Held.{kept-all, kept-then}
 use Rattle.instruction.specs.Numbers.{Two-sided}
 use Rattle.instruction.specs.Instructions.{Instruction, halt, push-int, jump, jump-if-false, two-sided, negate, not, print-int, print-str, print-str-ln, number, encode, opcode}
-use Rattle.meaning.specs.Layout.{of-mul, of-sign, of-rel, size, code, need}
+use Rattle.meaning.specs.Layout.{of-mul, of-sign, of-rel, code, need}
+use Rattle.meaning.proofs.Sizes.{size}
+use Rattle.meaning.proofs.Laid.{code-multiply, code-add, code-compare, code-while, code-when, code-then}
 use Rattle.compiler.specs.declared.walk.Walk.{Walk}
 use Rattle.compiler.specs.declared.walk.Gives.{Gives}
 use Rattle.compiler.specs.Steps.{moved-to, one-instruction, printing-number, ended-walk, ended-table, operation-number}
@@ -243,19 +245,19 @@ module _ {text names names₁ names₂ : List ℕ} {table table₁ table₂ : Li
       Lays text names table w (multiply x o y) names₂ (put table₂ (v .code) (operation-number (number-of (mul o)) ∷ pos 0 ∷ [])) (one-instruction v) (record { need = max (g .need) (1 + h .need) })
   unfolding moved-to one-instruction stand resolve size need code spare
   lays-multiply o m i p q =
-      lays-two (λ a b. multiply a o b) refl p q refl refl (λ a b. laid-joined (multiply a o b) (of-mul o) (operation-number (number-of (mul o))) m (mul-operation o) refl refl refl) (omega (arith, p .small, q .small)) (q .sound)
+      lays-two (λ a b. multiply a o b) refl p q refl refl (λ a b. laid-joined (multiply a o b) (of-mul o) (operation-number (number-of (mul o))) m (mul-operation o) refl refl (code-multiply (w .code) a o b)) (omega (arith, p .small, q .small)) (q .sound)
 
   pub lays-add : {x : Sen Name expression} {y : Sen Name term} (o : Sign) (m : Lexeme) → left .next .place < m .place → Lays text names table w x names₁ table₁ left g → Lays text names₁ table₁ (moved-to left m) y names₂ table₂ v h →
       Lays text names table w (add x o y) names₂ (put table₂ (v .code) (operation-number (number-of (sign o)) ∷ pos 0 ∷ [])) (one-instruction v) (record { need = max (g .need) (1 + h .need) })
   unfolding moved-to one-instruction stand resolve size need code spare
   lays-add o m i p q =
-      lays-two (λ a b. add a o b) refl p q refl refl (λ a b. laid-joined (add a o b) (of-sign o) (operation-number (number-of (sign o))) m (sign-operation o) refl refl refl) (omega (arith, p .small, q .small)) (q .sound)
+      lays-two (λ a b. add a o b) refl p q refl refl (λ a b. laid-joined (add a o b) (of-sign o) (operation-number (number-of (sign o))) m (sign-operation o) refl refl (code-add (w .code) a o b)) (omega (arith, p .small, q .small)) (q .sound)
 
   pub lays-compare : {x y : Sen Name expression} (o : Rel) (m : Lexeme) → left .next .place < m .place → Lays text names table w x names₁ table₁ left g → Lays text names₁ table₁ (moved-to left m) y names₂ table₂ v h →
       Lays text names table w (compare x o y) names₂ (put table₂ (v .code) (operation-number (number-of (rel o)) ∷ pos 0 ∷ [])) (one-instruction v) (record { need = max (g .need) (1 + h .need) })
   unfolding moved-to one-instruction stand resolve size need code spare
   lays-compare o m i p q =
-      lays-two (λ a b. compare a o b) refl p q refl refl (λ a b. laid-joined (compare a o b) (of-rel o) (operation-number (number-of (rel o))) m (rel-operation o) refl refl refl) (omega (arith, p .small, q .small)) (q .sound)
+      lays-two (λ a b. compare a o b) refl p q refl refl (λ a b. laid-joined (compare a o b) (of-rel o) (operation-number (number-of (rel o))) m (rel-operation o) refl refl (code-compare (w .code) a o b)) (omega (arith, p .small, q .small)) (q .sound)
 
 -- ---- bodies
 
@@ -277,15 +279,15 @@ laid-over {table} {table₁} {w} {c} {v} {x} z is e s n p t = record {
 module _ {table table₁ table₂ : List ℤ} {w c v : Walk} {g h : Gives} {x : Sen ℕ condition} {y : Sen ℕ command} (m : Lexeme) (p : Laid table table₁ w c g x) (q : Laid table₁ table₂ (one-instruction (moved-to c m)) v h y) where
   laid-guarded : (again : Bool) → let u = ended-walk again v in Laid table (put (ended-table again table₂ (v .code) (w .code)) (c .code) (pos 6 ∷ pos (u .code) ∷ [])) w u (record { need = max (g .need) (h .need) }) (guarded again x y)
   unfolding moved-to one-instruction size need code encode ended-walk ended-table guarded
-  laid-guarded true = laid-over (while x y) (code (c .code + 1) y ++ jump (w .code) ∷ []) (rw (q .code, p .code) refl) (omega (arith, p .code, q .code)) (ap₂ max (p .need) (q .need)) p (sym (emit-code table₁ (c .code + 1) y (jump (w .code) ∷ []) ∙ rw (← q .code, ← q .numbers) (emit-one table₂ (v .code) (jump (w .code)))))
-  laid-guarded false = laid-over (when x y) (code (c .code + 1) y) (rw (q .code, p .code) refl) (omega (arith, p .code, q .code)) (ap₂ max (p .need) (q .need)) p (q .numbers)
+  laid-guarded true = laid-over (while x y) (code (c .code + 1) y ++ jump (w .code) ∷ []) (code-while (w .code) x y ∙ rw (q .code, p .code) refl) (omega (arith, p .code, q .code)) (ap₂ max (p .need) (q .need)) p (sym (emit-code table₁ (c .code + 1) y (jump (w .code) ∷ []) ∙ rw (← q .code, ← q .numbers) (emit-one table₂ (v .code) (jump (w .code)))))
+  laid-guarded false = laid-over (when x y) (code (c .code + 1) y) (code-when (w .code) x y ∙ rw (q .code, p .code) refl) (omega (arith, p .code, q .code)) (ap₂ max (p .need) (q .need)) p (q .numbers)
 
 laid-then : {table table₁ table₂ : List ℤ} {w c v : Walk} {g h : Gives} {x : Sen ℕ commands} {y : Sen ℕ command} → Laid table table₁ w c g x → Laid table₁ table₂ c v h y → Laid table table₂ w v (record { need = max (g .need) (h .need) }) (then x y)
 unfolding size need code
 laid-then {table} {w} {x} {y} p q = record {
   code = omega (arith, p .code, q .code);
   need = ap₂ max (p .need) (q .need);
-  numbers = q .numbers ∙ sym (emit-code table (w .code) x (code (w .code + size x) y) ∙ rw (← p .code, ← p .numbers) refl);
+  numbers = q .numbers ∙ sym (ap (emit table (w .code)) (code-then (w .code) x y) ∙ emit-code table (w .code) x (code (w .code + size x) y) ∙ rw (← p .code, ← p .numbers) refl);
 }
 
 module _ {text names names₁ names₂ : List ℕ} {table table₁ table₂ : List ℤ} {w c v : Walk} {g h : Gives} {y : Sen Name command} where

@@ -22,7 +22,8 @@ use Rattle.names.specs.declared.Cell.the-variants.{At, Nowhere}
 use Rattle.names.specs.Held.{counts, room, scope-in, declared-in, opened-in, closed-in, Sound}
 use Rattle.names.proofs.Held.{used-at, used-nowhere, found-low, kept-all, declared-kept, declared-sound, declared-given, declared-too-many, opened-counts, opened-long, opened-scope-in, opened-sound, closed-kept, closed-sound, closed-scope-in}
 use Rattle.instruction.specs.Instructions.{Instruction, push-int, load-stack, store-stack, read, encode}
-use Rattle.meaning.specs.Layout.{size, code, need}
+use Rattle.meaning.specs.Layout.{code, need}
+use Rattle.meaning.proofs.Sizes.{size}
 use Rattle.compiler.specs.declared.walk.Walk.{Walk}
 use Rattle.compiler.specs.declared.walk.Gives.{Gives}
 use Rattle.tables.specs.declared.NameFault.{NameFault}

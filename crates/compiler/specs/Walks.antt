@@ -20,6 +20,7 @@ use Rattle.sentence.proofs.Reader.{Around, depth, State, in-first, in-left, in-
 use Rattle.names.specs.Names.{Scope, Known, resolve}
 use Rattle.names.specs.Held.{counts, room, scope-in, Sound, Kept}
 use Rattle.meaning.specs.Layout as layout
+use Rattle.meaning.proofs.Sizes.{size}
 use Rattle.compiler.specs.declared.walk.Walk.{Walk}
 use Rattle.compiler.specs.declared.walk.Gives.{Gives}
 use Rattle.tables.specs.declared.NameFault.{NameFault}
@@ -67,7 +68,7 @@ scope-of r = given (r .scope)
 
 -- the sentence's code was written from the walk's place on, and its need is known
 pub record Laid {k : Kind} (table table′ : List ℤ) (w v : Walk) (g : Gives) (y : Sen ℕ k) : Type 0 where
-  pub code : v .code ≡ w .code + layout.size y
+  pub code : v .code ≡ w .code + size y
   pub need : g .need ≡ layout.need y
   pub numbers : table′ ≡ emit table (w .code) (layout.code (w .code) y)
 

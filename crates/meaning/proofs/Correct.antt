@@ -1,5 +1,5 @@
 -- The run of a sentence's code is its meaning: the same units, the same ending.
-use mathlib.Core.Path.{_≡_, refl, sym}
+use mathlib.Core.Path.{_≡_, refl, sym, subst}
 use mathlib.Core.List.{List, [], _∷_, _++_}
 use mathlib.Core.Option.{some}
 use Prim.Native.Nat.{ℕ, zero, suc, _+_, _≤_, _<_}
@@ -14,10 +14,11 @@ use Rattle.instruction.specs.Endings.{stopped-by-ERROR}
 use Rattle.instruction.specs.Numbers.{Two-sided, calculate}
 use Rattle.instruction.specs.Instructions.{two-sided, jump, jump-if-false}
 use Rattle.machine.specs.Machine.{Lent, pairs, fetched}
-use Rattle.meaning.specs.Layout.{of-mul, of-sign, of-rel, size, code, need}
+use Rattle.meaning.specs.Layout.{of-mul, of-sign, of-rel, code, need}
+use Rattle.meaning.proofs.Sizes.{size}
 use Rattle.meaning.proofs.Fits.{Fits}
 use Rattle.meaning.specs.Meaning.{Act, _>>=_, _>>_, unit, result, Value, signed-value, rounds, mean}
-use Rattle.meaning.proofs.Laid.{Holds, holds-next, holds-code}
+use Rattle.meaning.proofs.Laid.{Holds, holds-next, holds-code, code-multiply, code-add, code-compare, code-while, code-when, code-then}
 use Rattle.meaning.proofs.Leads.{Leads, here, bind, seq, moved, first-step, step-on, fuelled, pushes, loads, stores, calculates, minuses, negates, halts, prints-number, prints-string, prints-line, reads, jumps, chooses}
 
 -- a construct's value on the stack; a Command has none
@@ -61,7 +62,7 @@ module _ (lent : Lent) (d : ℕ) where
   runs (bracket e) = runs e
   runs (first e) = runs e
   runs (multiply x o y) = λ N a ts h i f r.
-      let p = holds-code lent a x _ h in
+      let p = holds-code lent a x _ (subst (Holds lent a) (code-multiply a x o y) h) in
       let q = holds-code lent (a + size x) y _ (p .1) in
       moved (omega arith) (two (of-mul o) (q .1 .0) (runs x N a ts (p .0) (omega arith) (f .0) (omega arith)) (λ v. runs y N (a + size x) (v ∷ ts) (q .0) (omega arith) (f .1) (omega arith)))
   runs (unsigned t) = runs t
@@ -72,14 +73,14 @@ module _ (lent : Lent) (d : ℕ) where
       let p = holds-code lent a t _ h in
       bind (runs t N a ts (p .0) (omega arith) f r) (λ v. unfold signed-value in moved (omega arith) (step-on (p .1 .0) (minuses v)))
   runs (add x o y) = λ N a ts h i f r.
-      let p = holds-code lent a x _ h in
+      let p = holds-code lent a x _ (subst (Holds lent a) (code-add a x o y) h) in
       let q = holds-code lent (a + size x) y _ (p .1) in
       moved (omega arith) (two (of-sign o) (q .1 .0) (runs x N a ts (p .0) (omega arith) (f .0) (omega arith)) (λ v. runs y N (a + size x) (v ∷ ts) (q .0) (omega arith) (f .1) (omega arith)))
   runs (negated x) = λ N a ts h i f r.
       let p = holds-code lent a x _ h in
       bind (runs x N a ts (p .0) (omega arith) f r) (λ v. moved (omega arith) (step-on (p .1 .0) (negates v)))
   runs (compare x o y) = λ N a ts h i f r.
-      let p = holds-code lent a x _ h in
+      let p = holds-code lent a x _ (subst (Holds lent a) (code-compare a x o y) h) in
       let q = holds-code lent (a + size x) y _ (p .1) in
       moved (omega arith) (two (of-rel o) (q .1 .0) (runs x N a ts (p .0) (omega arith) (f .0) (omega arith)) (λ v. runs y N (a + size x) (v ∷ ts) (q .0) (omega arith) (f .1) (omega arith)))
   runs (print e) = λ N a ts h i f r.
@@ -94,16 +95,16 @@ module _ (lent : Lent) (d : ℕ) where
       bind (runs e N a ts (p .0) (omega arith) (f .1) r) (λ v. moved (omega arith) (step-on (p .1 .0) (stores c v (f .0))))
   runs error = λ N a ts h i f r. step-on (h .0) (halts stopped-by-ERROR)
   runs (while x y) = λ N a ts h i f r.
-      let p = holds-code lent a x _ h in
+      let p = holds-code lent a x _ (subst (Holds lent a) (code-while a x y) h) in
       let q = holds-code lent (a + size x + 1) y _ (holds-next lent (a + size x) (code (a + size x + 1) y ++ jump a ∷ []) (p .1 .1)) in
       moved (omega arith) (fuelled (loops (means x) (means y) a (size x) (size y) ts (p .1 .0) (q .1 .0) (omega arith) (λ M. runs x M a ts (p .0) (omega arith) (f .0) (omega arith))
       (λ M. runs y M (a + size x + 1) ts (q .0) (omega arith) (f .1) (omega arith))))
   runs (when x y) = λ N a ts h i f r.
-      let p = holds-code lent a x _ h in
+      let p = holds-code lent a x _ (subst (Holds lent a) (code-when a x y) h) in
       bind (runs x N a ts (p .0) (omega arith) (f .0) (omega arith)) (λ v. moved (omega arith) (step-on (p .1 .0) (chooses v (a + size x + 1 + size y) (omega arith) (here tt (λ _. ts))
       (rw (← add-one (a + size x)) (runs y N (a + size x + 1) ts (holds-next lent (a + size x) (code (a + size x + 1) y) (p .1 .1)) (omega arith) (f .1) (omega arith))))))
   runs (block ms) = runs ms
   runs (single m) = runs m
   runs (then x y) = λ N a ts h i f r.
-      let p = holds-code lent a x _ h in
+      let p = holds-code lent a x _ (subst (Holds lent a) (code-then a x y) h) in
       seq (runs x N a ts (p .0) (omega arith) (f .0) (omega arith)) (λ v. moved (omega arith) (runs y N (a + size x) ts (p .1) (omega arith) (f .1) (omega arith)))

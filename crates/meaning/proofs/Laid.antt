@@ -8,11 +8,12 @@ use native.Mathlib.Numerals.{add-one}
 use native.Mathlib.Omega.{arith}
 use lib.Dec.{lit<}
 use lib.ListN.{length, getElem?, replicate, length-append}
-use Rattle.sentence.specs.Sentences.{plus, minus, Kind, Sen, command, literal, variable, bracket, first, multiply, unsigned, signed, add, negated, compare, print, print-line, print-string, declare, input, assign, error, while, when, block, single, then}
-use Rattle.instruction.specs.Instructions.{Instruction}
+use Rattle.sentence.specs.Sentences.{Sign, plus, minus, Mul, Rel, Kind, Sen, factor, term, expression, condition, command, commands, literal, variable, bracket, first, multiply, unsigned, signed, add, negated, compare, print, print-line, print-string, declare, input, assign, error, while, when, block, single, then}
+use Rattle.instruction.specs.Instructions.{Instruction, jump, jump-if-false, two-sided}
 use Rattle.machine.specs.Machine.{Lent, fetched}
 use Rattle.instruction.proofs.Pairs.{Sound, All-sound}
-use Rattle.meaning.specs.Layout.{size, code, program-code}
+use Rattle.meaning.specs.Layout.{of-mul, of-sign, of-rel, code, program-code}
+use Rattle.meaning.proofs.Sizes.{size}
 
 -- ---- how long it is, and that each of its instructions has a pair
 
@@ -57,6 +58,33 @@ laid a (when c m) = laid-append (laid a c) (laid-append (laid-one _ tt) (laid _ 
 laid a (block ms) = laid a ms
 laid a (single m) = laid a m
 laid a (then ms m) = laid-append (laid a ms) (laid _ m) refl
+
+-- ---- the code of parts that stand behind others
+
+module _ (a : ℕ) where
+  pub code-multiply : (t : Sen ℕ term) (o : Mul) (f : Sen ℕ factor) → code a (multiply t o f) ≡ code a t ++ (code (a + size t) f ++ two-sided (of-mul o) ∷ [])
+  unfolding code
+  code-multiply t o f = rw (laid a t .long)
+
+  pub code-add : (e : Sen ℕ expression) (g : Sign) (t : Sen ℕ term) → code a (add e g t) ≡ code a e ++ (code (a + size e) t ++ two-sided (of-sign g) ∷ [])
+  unfolding code
+  code-add e g t = rw (laid a e .long)
+
+  pub code-compare : (d : Sen ℕ expression) (r : Rel) (e : Sen ℕ expression) → code a (compare d r e) ≡ code a d ++ (code (a + size d) e ++ two-sided (of-rel r) ∷ [])
+  unfolding code
+  code-compare d r e = rw (laid a d .long)
+
+  pub code-while : (c : Sen ℕ condition) (m : Sen ℕ command) → code a (while c m) ≡ code a c ++ jump-if-false (a + size c + 1 + size m + 1) ∷ (code (a + size c + 1) m ++ jump a ∷ [])
+  unfolding code
+  code-while c m = rw (laid a c .long, laid (a + size c + 1) m .long)
+
+  pub code-when : (c : Sen ℕ condition) (m : Sen ℕ command) → code a (when c m) ≡ code a c ++ jump-if-false (a + size c + 1 + size m) ∷ code (a + size c + 1) m
+  unfolding code
+  code-when c m = rw (laid a c .long, laid (a + size c + 1) m .long)
+
+  pub code-then : (ms : Sen ℕ commands) (m : Sen ℕ command) → code a (then ms m) ≡ code a ms ++ code (a + size ms) m
+  unfolding code
+  code-then ms m = rw (laid a ms .long)
 
 laid-replicate : (n : ℕ) (i : Instruction) → Sound i → Laid (replicate n i) n
 unfolding All-sound

@@ -1,4 +1,5 @@
 pub mod Fits
+pub mod Sizes
 pub mod Cells
 pub mod Laid
 pub mod Leads

@@ -3,7 +3,8 @@ use Prim.Native.Nat.{ℕ, _≤_}
 use native.Mathlib.Omega.{arith}
 use lib.ListN.{length}
 use Rattle.sentence.specs.Sentences.{Kind, Sen, command, literal, variable, bracket, first, multiply, unsigned, signed, add, negated, compare, print, print-line, print-string, declare, input, assign, error, while, when, block, single, then}
-use Rattle.meaning.specs.Layout.{size, need, program-code, program-need}
+use Rattle.meaning.specs.Layout.{need, program-code, program-need}
+use Rattle.meaning.proofs.Sizes.{size}
 use Rattle.meaning.proofs.Laid.{laid-program}
 
 need-size : {k : Kind} (x : Sen ℕ k) → need x ≤ size x

@@ -12,7 +12,8 @@ use Rattle.instruction.specs.Instructions.{halt, push-int, numbers, takes, give
 use Rattle.machine.specs.Machine.{Lent, untouched, fresh, pushed, pairs, names-well, does, run, End, end-of, report, whole-run}
 use Rattle.machine.proofs.Tried.{works}
 use Rattle.machine.proofs.Pairs.{even, pairs-are, fetched-is}
-use Rattle.meaning.specs.Layout.{size, program-code, program-need}
+use Rattle.meaning.specs.Layout.{program-code, program-need}
+use Rattle.meaning.proofs.Sizes.{size}
 use Rattle.meaning.proofs.Fits.{Fits}
 use Rattle.meaning.specs.Meaning.{Store, start, Outcome, done, ended, after, _>>_, give, end-with, unit, declarations, program, meaning}
 use Rattle.meaning.proofs.Cells.{cells, length-cells}
