@@ -11,7 +11,7 @@ use Rattle.base.specs.declared.Refusal.the-variants.{NoLexeme}
 use Rattle.base.specs.Answers.{refused}
 use Rattle.base.proofs.Runs.{all-own, run-alone, run-mixed, run-begun, digit-apart, letter-apart, letters-first, digits-first}
 use Rattle.base.specs.Bytes.{small, letter, digit, letter-or-digit, no-quote, run, begins, all, same, value}
-use Rattle.lexeme.specs.Lexemes.{Keyword, lit, fixed, capital-word, starts-small, letter-word, word, string, string-at, found}
+use Rattle.lexeme.specs.Lexemes.{Keyword, lit, fixed, capital-word, letter-word, word, string, string-at, found}
 use Rattle.lexeme.specs.Coded.{code-of, kind-of}
 use Rattle.lexeme.specs.declared.Kind.{Kind}
 use Rattle.lexeme.specs.declared.Kind.the-variants.{Fixed}
@@ -37,13 +37,13 @@ module _ {k : Keyword} {rest ks : List Keyword} {w : List ℕ} (left : Left (k �
   unfolding capital-word
   keyword-miss h = record { same-kind = λ p. ap (after-keyword k rest w p) (sym h ∙ tested) ∙ left .same-kind p }
 
-pub starts-empty : (w : List ℕ) → length w ≡ 0 → false ≡ starts-small w
-unfolding starts-small
+pub starts-empty : (w : List ℕ) → length w ≡ 0 → false ≡ begins small w
+unfolding begins
 starts-empty [] e = refl
 starts-empty (b ∷ w) e = absurd (omega arith)
 
-pub starts-first : (w : List ℕ) → (length w ≡ 0 → ⊥) → starts-small w ≡ small (getD w 0 0)
-unfolding starts-small
+pub starts-first : (w : List ℕ) → (length w ≡ 0 → ⊥) → begins small w ≡ small (getD w 0 0)
+unfolding begins
 starts-first [] n = absurd (n refl)
 starts-first (b ∷ w) n = refl
 

@@ -9,7 +9,7 @@ use lib.ListN.{length, drop}
 pub use Rattle.limits.specs.Limits.{Sizes}
 use Rattle.base.specs.declared.Refusal.the-variants.{NoLexeme, TooLarge}
 use Rattle.base.specs.Answers.{Answer, given, refused, pass}
-use Rattle.base.specs.Bytes.{bytes, separator, small, letter, digit, letter-or-digit, no-quote, run, all, same, value}
+use Rattle.base.specs.Bytes.{bytes, separator, small, letter, digit, letter-or-digit, no-quote, run, begins, all, same, value}
 
 -- ---- what a lexeme is
 
@@ -74,13 +74,9 @@ unfoldable pub capital-word : List Keyword → ℕ → List ℕ → Lexeme
 capital-word [] p w = class (record { letters = w; place = p })
 capital-word (k ∷ ks) p w = elim (same w (k .spelled)) [ true ↦ fixed (k .means) | false ↦ capital-word ks p w ]
 
-unfoldable pub starts-small : List ℕ → Bool
-starts-small [] = false
-starts-small (b ∷ w) = small b
-
 -- a letter word at the place p: a symbol name if it starts small
 unfoldable pub letter-word : ℕ → List ℕ → Lexeme
-letter-word p w = cond (starts-small w) (name (record { letters = w; place = p })) (capital-word keywords p w)
+letter-word p w = cond (begins small w) (name (record { letters = w; place = p })) (capital-word keywords p w)
 
 -- a word at the place p: all letters, or all digits; a mixed word is refused
 unfoldable pub word : ℕ → List ℕ → Answer Next

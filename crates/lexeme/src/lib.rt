@@ -2,7 +2,8 @@
 ghost use mathlib.Core.Path.{_≡_};
 ghost use Prim.Native.Nat.{ℕ};
 ghost use lib.ListN.{drop};
-ghost use Rattle.lexeme.specs.Lexemes.{keywords, letter-word, capital-word, starts-small};
+ghost use Rattle.lexeme.specs.Lexemes.{keywords, letter-word, capital-word};
+ghost use Rattle.base.specs.Bytes.{small, begins};
 ghost use Rattle.lexeme.specs.Coded.{kind-of, fixed-number};
 use base::Refusal;
 use base::is_same;
@@ -129,7 +130,7 @@ fn later_capital_word(word: &[u8]) -> Kind
 }
 
 fn starts_small(word: &[u8]) -> bool
-    ensures { λ r. ⌜ r ≡ starts-small (now (word .entry)) ⌝ }
+    ensures { λ r. ⌜ r ≡ begins small (now (word .entry)) ⌝ }
 {
     if word.len() == 0 {
         return false;
