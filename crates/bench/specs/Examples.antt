@@ -1,4 +1,4 @@
--- Document 01, "Bench examples": the starred ones, and document 001's `fac0` (its listings 6.2 and 6.3 and its table 6.3).
+-- Document 01, "Bench examples": the starred ones; its slips in class; and document 001's `fac0` (its listings 6.2 and 6.3 and its table 6.3).
 use mathlib.Core.Path.{_≡_}
 use mathlib.Core.List.{List, [], _∷_}
 use Prim.Native.Nat.{ℕ}
@@ -95,6 +95,25 @@ starred =
     ∷ record { text = bytes countdown; readings = with-reading 0; budget = 1000000; comes-to = runs countdown-code 1 3 (ends 0 12 1 "0") }
     ∷ record { text = bytes countdown; readings = with-reading 3; budget = 38; comes-to = runs countdown-code 1 3 (ends 2 38 1 "0") }
     ∷ record { text = bytes countdown; readings = with-reading 3; budget = 37; comes-to = runs countdown-code 1 3 (ends 2 37 1 "") }
+    ∷ []
+
+-- document 01, "Slips we've met in class": grouped to the right it would print 7; with the right side first it would end with 4; a value kept from the last round would print 12
+abbrev pub fresh-each-round : String
+fresh-each-round = "DO { INT i WHILE i < 2 DO { INT a a := a + 1 PRINTI a i := i + 1 } }"
+
+abbrev pub fresh-each-round-code : List ℤ
+fresh-each-round-code =
+    as-numbers
+    ((2, 0) ∷ (2, 0) ∷ (2, 0) ∷ (4, 0) ∷ (3, 0) ∷ (2, 2) ∷ (12, 0) ∷ (6, 21) ∷ (2, 0) ∷ (4, 1) ∷ (3, 1) ∷ (2, 1) ∷ (7, 0) ∷ (4, 1) ∷ (3, 1) ∷ (17, 0)
+    ∷ (3, 0) ∷ (2, 1) ∷ (7, 0) ∷ (4, 0) ∷ (5, 4)
+    ∷ (1, 0)
+    ∷ [])
+
+abbrev pub slips : List Example
+slips =
+    record { text = bytes "DO PRINTI 8-3-2"; readings = []; budget = 1000000; comes-to = runs (as-numbers ((2, 8) ∷ (2, 3) ∷ (8, 0) ∷ (2, 2) ∷ (8, 0) ∷ (17, 0) ∷ (1, 0) ∷ [])) 0 2 (ends 0 7 0 "3") }
+    ∷ record { text = bytes "DO PRINTI 1/0 + 2147483647*2"; readings = []; budget = 1000000; comes-to = runs (as-numbers ((2, 1) ∷ (2, 0) ∷ (10, 0) ∷ (2, 2147483647) ∷ (2, 2) ∷ (9, 0) ∷ (7, 0) ∷ (17, 0) ∷ (1, 0) ∷ [])) 0 3 (ends 5 3 0 "") }
+    ∷ record { text = bytes fresh-each-round; readings = []; budget = 1000000; comes-to = runs fresh-each-round-code 2 4 (ends 0 43 0 "11") }
     ∷ []
 
 -- document 001, listing 6.2

@@ -2,12 +2,12 @@
 ghost use mathlib.Core.Path.{_≡_};
 ghost use mathlib.Core.List.{_++_};
 ghost use Rattle.limits.specs.Limits.{Sizes};
-ghost use Rattle.bench.specs.Examples.{Each-yields, starred, from-document-001};
+ghost use Rattle.bench.specs.Examples.{Each-yields, starred, slips, from-document-001};
 use limits::Limits;
 
 pub fn yield_as_expected()
     ghost { Sizes }
     requires { λ sizes. do ⌜ record { word = (← ⟦Limits::WORD⟧); string = (← ⟦Limits::STRING⟧); literal = (← ⟦Limits::LITERAL⟧) } ≡ sizes ⌝ }
     ensures { λ sizes _. do
-      ⌜ Each-yields (record { text = (← ⟦Limits::TEXT⟧ .entry); sizes = sizes; nesting = (← ⟦Limits::NESTING⟧ .entry); declarations = (← ⟦Limits::DECLARATIONS⟧ .entry); instructions = (← ⟦Limits::INSTRUCTIONS⟧ .entry) }) (starred ++ from-document-001) ⌝ }
+      ⌜ Each-yields (record { text = (← ⟦Limits::TEXT⟧ .entry); sizes = sizes; nesting = (← ⟦Limits::NESTING⟧ .entry); declarations = (← ⟦Limits::DECLARATIONS⟧ .entry); instructions = (← ⟦Limits::INSTRUCTIONS⟧ .entry) }) (starred ++ (slips ++ from-document-001)) ⌝ }
 {}

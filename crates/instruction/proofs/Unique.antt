@@ -1,6 +1,11 @@
--- What the code holds tells results and instructions apart, so that the contracts of `in_range`, `calculate` and `decode` leave one answer each. Assumes nothing.
+-- What the code holds tells results and instructions apart, so that the contracts of `in_range`, `calculate` and `decode` leave one answer each; those of `put_digits` and `put_decimal` too. Assumes nothing.
 use mathlib.Core.Path.{_≡_, refl, sym, ap, _∙_}
+use mathlib.Core.List.{List}
 use mathlib.Core.Option.{Option, none, some}
+use Prim.Native.Nat.{ℕ}
+use native.Mathlib.Omega.{arith}
+use lib.Seq.{sets}
+use Rattle.instruction.specs.Buffers.{At-the-end}
 use Rattle.instruction.specs.Numbers.{Result, value, ends, plus, minus, times, divide, equals, smaller, greater}
 use Rattle.instruction.specs.Instructions.{Instruction, halt, push-int, load-stack, store-stack, jump, jump-if-false, two-sided, negate, not, read, print-int, print-str, print-str-ln}
 use Rattle.instruction.specs.Coded.{as-result, as-instruction}
@@ -75,3 +80,10 @@ op-again (PrintStrLn q) = refl
 
 pub one-instruction : (o p : Op) → as-instruction o ≡ as-instruction p → o ≡ p
 one-instruction = same-by as-instruction op-back op-again
+
+-- ---- bytes at the end of a buffer
+
+pub one-at-the-end : {bs first last last′ : List ℕ} {at at′ : ℕ} → At-the-end bs first last at → At-the-end bs first last′ at′ → (at ≡ at′) × (last ≡ last′)
+one-at-the-end {bs} {first} {at} {at′} p q =
+    let e : at ≡ at′ = omega (arith, p .count, q .count) in
+    (e, p .bytes ∙ ap (λ n. sets first n bs) e ∙ sym (q .bytes))

@@ -9,7 +9,7 @@ use Rattle.machine.proofs.Runs.{only-one}
 use Rattle.compiler.specs.Compiled.{Accepted, Compiled, With-answer}
 use Rattle.compiler.proofs.Judging.{one-compiled}
 use Rattle.compiler.proofs.Unique.{both}
-use Rattle.kit.specs.Kit.{Comes-to, refused-so, ran, Outcome-of, sendable}
+use Rattle.kit.specs.Kit.{Comes-to, refused-so, ran, Outcome-of}
 use Rattle.kit.specs.declared.Outcome.{Outcome}
 use Rattle.kit.specs.declared.Outcome.the-variants as outcome
 
@@ -26,7 +26,3 @@ module _ (text : List ℕ) (readings : List ℤ) (budget : ℕ) (stack : List �
       let b = both (λ a c. one-compiled limits text n) p q in
       let e = same (b .1 .comes) (b .2 .comes) in
       (e .0, b .1 .numbers ∙ sym (b .2 .numbers), e .1, e .2)
-
--- and that of `to_send` one result
-pub send-unique : (ending size : ℕ) (out s s′ : List ℕ) → s ≡ sendable ending size out → s′ ≡ sendable ending size out → s ≡ s′
-send-unique ending size out s s′ e e′ = e ∙ sym e′

@@ -1,3 +1,4 @@
 pub mod Adds
 pub mod Short
 pub mod Tables
+pub mod Unique

@@ -49,9 +49,10 @@ module _ (lent : Lent) (budget : ℕ) where
   even-table h = rw (eq-eqb (length (lent .table) % 2) 0 h)
 
 -- any two results that meet the promise are the same
-pub only-one : {w : Report} {cells : List ℤ} {before : List ℕ} {r r′ : Code.Report} {st st′ : List ℤ} {after after′ : List ℕ} → Ran w cells before r st after → Ran w cells before r′ st′ after′ → (r ≡ r′) × ((st ≡ st′) × (after ≡ after′))
-only-one {r = r} {r′ = r′} p q =
-    let a = p .reported in
-    let b = q .reported in
+pub one-reported : {w : Report} {before : List ℕ} {r r′ : Code.Report} {after after′ : List ℕ} → Reported w before r after → Reported w before r′ after′ → (r ≡ r′) × (after ≡ after′)
+one-reported {r = r} {r′ = r′} a b =
     let same : record { ending = r .ending; steps = r .steps; used = r .used; length = r .length } ≡ r′ = rw (a .ending ∙ sym (b .ending), a .steps ∙ sym (b .steps), a .used ∙ sym (b .used), a .size ∙ sym (b .size)) in
-    (same, (p .stack ∙ sym (q .stack), a .room ∙ sym (b .room)))
+    (same, a .room ∙ sym (b .room))
+
+pub only-one : {w : Report} {cells : List ℤ} {before : List ℕ} {r r′ : Code.Report} {st st′ : List ℤ} {after after′ : List ℕ} → Ran w cells before r st after → Ran w cells before r′ st′ after′ → (r ≡ r′) × ((st ≡ st′) × (after ≡ after′))
+only-one p q = let e = one-reported (p .reported) (q .reported) in (e .0, (p .stack ∙ sym (q .stack), e .1))

@@ -1,5 +1,5 @@
 -- An input that comes in chunks: what `start`, `more` for each chunk and `finish` promise leaves one result, that of the whole input by the paper's definition. Assumes nothing.
-use mathlib.Core.Path.{_≡_, refl, _∙_}
+use mathlib.Core.Path.{_≡_, refl, sym, ap, _∙_}
 use mathlib.Core.List.{List, [], _∷_, _++_, flatten}
 use Prim.Native.Nat.{ℕ}
 use lib.IntN.{ℤ}
@@ -22,3 +22,7 @@ module _ (takes : Reader → List ℤ → List ℕ → Taken) where
       ((l : List ℤ) (rest : List ℕ) → takes r l rest ≡ taken-in l rest) → Fed r l cs e m → record { count = n; numbers = exit } ≡ takes e m [] →
       record { count = n; numbers = exit } ≡ taken-in l (flatten cs)
   whole r e l m exit cs n start more finish = finish ∙ (fed more ∙ start l (flatten cs))
+
+-- so that two ways to take one input leave one count and the same numbers
+pub one-taken : {t : Taken} {n n′ : ℕ} {exit exit′ : List ℤ} → record { count = n; numbers = exit } ≡ t → record { count = n′; numbers = exit′ } ≡ t → (n ≡ n′) × (exit ≡ exit′)
+one-taken e e′ = let same = e ∙ sym e′ in (ap (λ (t : Taken). t .count) same, ap (λ (t : Taken). t .numbers) same)
