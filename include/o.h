@@ -40,6 +40,30 @@ void o_run(const uint8_t *text, size_t text_length,
            uint8_t *out, size_t out_length,
            uint64_t report[4]);
 
+/*
+ * A text compiled and its own code run: what firmware calls. It passes on the counted pairs of the table and no more,
+ * and says how many bytes may be sent.
+ *
+ * Each array passes as a pointer and its number of elements. A pointer is not null, also where the number is 0, and is
+ * valid for that many elements. `table`, `stack`, `out` and `report` are written: none of them may overlap anything
+ * else lent.
+ *
+ * Afterwards report[0] is 0 if the text was accepted, or the number of the refusal, 1 to 8; report[1] the refusal's
+ * place; report[2] the ending, 0 to 8; report[3] the steps; report[4] the readings used; report[5] the output's length;
+ * report[6] how many bytes of `out` may be sent on to the feed: the length with ending 0, and 0 with any other.
+ * On a refusal report[2] to report[6] are 0, the table is all zeros, and stack and `out` are as they were. Else the
+ * table is the code and then zeros, the whole stack is 0, and the bytes of `out` past the output are as they were. On a
+ * stack shorter than the text's need the run may end with 6; with 8,192 numbers of table and 4,096 cells of stack every
+ * text that can be accepted is, and none ends with 6 or 8.
+ */
+void o_run_text(const uint8_t *text, size_t text_length,
+                const int32_t *readings, size_t readings_length,
+                uint32_t budget,
+                int32_t *table, size_t table_length,
+                int32_t *stack, size_t stack_length,
+                uint8_t *out, size_t out_length,
+                uint64_t report[7]);
+
 #ifdef __cplusplus
 }
 #endif
