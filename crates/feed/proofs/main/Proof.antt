@@ -20,13 +20,13 @@ slice-aggregate-feed-2 : tie.Need-slice-aggregate-feed-2
 slice-aggregate-feed-2 c = sym (length-take-le _ _ (array-share-prefix-numbers (c .before)))
 
 array-share-prefix-page : tie.Need-array-share-prefix-page
-array-share-prefix-page c = on-page (c .feed .ensures .says)
+array-share-prefix-page c = on-page (c .feed .ensures .so .says)
 
 slice-aggregate-deliver : tie.Need-slice-aggregate-deliver
 slice-aggregate-deliver c = sym (length-take-le _ _ (array-share-prefix-page (c .before)))
 
 array-share-prefix-note : tie.Need-array-share-prefix-note
-array-share-prefix-note c = on-note (c .before .feed .ensures .says)
+array-share-prefix-note c = on-note (c .before .feed .ensures .so .says)
 
 slice-aggregate-deliver-2 : tie.Need-slice-aggregate-deliver-2
 slice-aggregate-deliver-2 c = sym (length-take-le _ _ (array-share-prefix-note (c .before)))

@@ -7,7 +7,7 @@ use Rattle.lessons.proofs.run.Statement.{statement}
 use Rattle.lessons.proofs.run.Tie as tie
 
 array-share-prefix-page : tie.Need-array-share-prefix-page
-array-share-prefix-page c = on-page (c .station .ensures .says)
+array-share-prefix-page c = on-page (c .station .ensures .so .says)
 
 slice-aggregate-write-all : tie.Need-slice-aggregate-write-all
 slice-aggregate-write-all c = sym (length-take-le _ _ (array-share-prefix-page (c .before)))

@@ -13,7 +13,7 @@ slice-aggregate-listing : tie.Need-slice-aggregate-listing
 slice-aggregate-listing c = sym (length-take-le _ _ (array-share-prefix-text (c .before)))
 
 array-share-prefix-page : tie.Need-array-share-prefix-page
-array-share-prefix-page c = on-page (c .listing .ensures)
+array-share-prefix-page c = on-page (c .listing .ensures .so)
 
 slice-aggregate-deliver : tie.Need-slice-aggregate-deliver
 slice-aggregate-deliver c = sym (length-take-le _ _ (array-share-prefix-page (c .before)))

@@ -20,7 +20,7 @@ slice-aggregate-station-2 : tie.Need-slice-aggregate-station-2
 slice-aggregate-station-2 c = sym (length-take-le _ _ (array-share-prefix-numbers (c .before)))
 
 array-share-prefix-page : tie.Need-array-share-prefix-page
-array-share-prefix-page c = on-page (c .station .ensures .says)
+array-share-prefix-page c = on-page (c .station .ensures .so .says)
 
 slice-aggregate-deliver : tie.Need-slice-aggregate-deliver
 slice-aggregate-deliver c = sym (length-take-le _ _ (array-share-prefix-page (c .before)))
