@@ -102,7 +102,7 @@ fn assign(allow: usize, text: &[u8], names: &[usize], table: &mut [i32], w: Walk
     requires { ⌜ Ready (now text) (now names) w allow ⌝ }
     ensures { λ r. ⌜ Reads-assign l (now (text .entry)) (now (names .entry)) (now (table .entry)) w allow r (now (names .entry)) (now (table .exit)) ⌝ }
 {
-    let c = naming::look_up(text, names, l);
+    let c = names::look_up(text, names, l.place, l.end);
     let a = walk::expect(text, naming::noted(w, c, l), b':', 0);
     let Read::Done(x, _) = a else {
         return a;
@@ -236,7 +236,7 @@ fn guarded(
         return t;
     };
     let end = ended(table, y, again, w.code);
-    tables::put(table, c.code, operations::JUMP_IF_FALSE, end.code as i32);
+    tables::put_jump_if_false(table, c.code, end.code);
     Read::Done(
         end,
         Gives {

@@ -27,7 +27,7 @@ fn factor(allow: usize, text: &[u8], names: &[usize], table: &mut [i32], w: Walk
     let kind = l.kind;
     match kind {
         Kind::Literal(v) => {
-            let x = walk::emitted(table, w, operations::PUSH_INT, walk::operand(v as usize));
+            let x = walk::emitted(table, w, operations::PUSH_INT, tables::operand(v as usize));
             walk::advance(text, x, 1)
         }
         Kind::Name => {
@@ -71,7 +71,7 @@ fn joined(table: &mut [i32], f: u8, left: Gives, w: Walk, right: Gives) -> Read
     ensures { λ r. ⌜ r ≡ joined-walk left w right ⌝ }
     ensures { λ _. ⌜ now (table .exit) ≡ put (now (table .entry)) (w .code) (operation-number f ∷ pos 0 ∷ []) ⌝ }
 {
-    let need = walk::larger(left.need, 1 + right.need);
+    let need = tables::two_sided_need(left.need, right.need);
     Read::Done(
         walk::emitted(table, w, operator::operation(f), 0),
         Gives { need: need },

@@ -5,7 +5,7 @@ use denote.Ref.{now}
 use mir.Facts.{toZ-ofZ}
 use Rattle.lexeme.specs.Lexemes.{becomes}
 use Rattle.lexeme.specs.Coded.{code-of}
-use Rattle.compiler.specs.Steps.{Expects}
+use Rattle.compiler.specs.Steps.{Expects, cell-of}
 use Rattle.compiler.specs.Walks.{Reads}
 use Rattle.compiler.proofs.Bodies.{named-walk, ready-named, no-value, Crossed, crossed, ready-value, value-leads, assigned}
 use Rattle.compiler.proofs.Commands.{assign-way}
@@ -15,11 +15,12 @@ use Rattle.compiler.proofs.command.assign.Statement.{statement}
 use Rattle.compiler.proofs.command.assign.Tie as tie
 
 expect-requires : tie.Need-expect-requires
+unfolding cell-of
 expect-requires c κs = rw (c .noted .ensures, c .before .look-up .ensures) (ready-named (c .before .before .before .before .pre) (c .before .before .before .before .args .l) .stands .within)
 
 -- `:=` is expected after the name was looked up
 expects : (c : tie.After-expect) → let a = c .before .before .before .before .before .args in Expects (now (a .text)) (named-walk (c .before .before .before .before .before .pre) (a .l)) (code-of becomes) 0 (c .expect .result)
-unfolding code-of
+unfolding code-of cell-of
 expects c = rw (c .before .noted .ensures, c .before .before .look-up .ensures) at (c .expect .ensures)
 
 returns : tie.Need-returns
@@ -43,6 +44,7 @@ emitted-requires : tie.Need-emitted-requires
 emitted-requires c κs = counts-got (ready-value (c .before .before .before .before .before .before .before .before .before .before .before .before .before .before .before .before .pre) (c .before .before .before .before .before .before .before .before .before .before .before .before .before .before .before .before .args .l) (becomes-met (c .before .before .before .before .before .before .before .before .before))) (value (c .before .before .before)) .0
 
 returns-3 : tie.Need-returns-3
+unfolding cell-of
 returns-3 c = rw (c .before .emitted .ensures .0, c .before .emitted .ensures .1, toZ-ofZ (record { sfits = c .before .before .operand .ok }), c .before .before .operand .ensures, c .before .before .before .before .before .before .before .before .before .before .before .before .before .before .before .look-up .ensures) (done (assign-way _) refl (assigned (c .before .before .before .before .before .before .before .before .before .before .before .before .before .before .before .before .before .before .pre) (c .before .before .before .before .before .before .before .before .before .before .before .before .before .before .before .before .before .before .args .l) (becomes-met (c .before .before .before .before .before .before .before .before .before .before .before)) (value (c .before .before .before .before .before))))
 
 pub assign-spec : {M : Type 1} → statement M

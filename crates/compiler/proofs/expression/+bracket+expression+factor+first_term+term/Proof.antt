@@ -24,8 +24,8 @@ use Rattle.compiler.specs.declared.walk.Walk.{Walk}
 use Rattle.compiler.specs.declared.walk.Gives.{Gives}
 use Rattle.compiler.specs.declared.walk.Read.{Read}
 use Rattle.compiler.specs.declared.walk.Read.the-variants.{Done, Refused}
-use Rattle.compiler.specs.Steps.{moved-to, one-instruction, joined-walk, noted-walk, cell-of, cell-number, operand-of, Past, Advances, Expects}
-use Rattle.tables.specs.Tables.{put}
+use Rattle.compiler.specs.Steps.{moved-to, one-instruction, joined-walk, noted-walk, cell-of, cell-number, Past, Advances, Expects}
+use Rattle.tables.specs.Tables.{put, operand-of}
 use Rattle.compiler.specs.Walks.{Reads, Reads-factor, Ready, Lays, name-of}
 use Rattle.compiler.proofs.Lays.{trail, lead, lays-literal, lays-bracket, lays-first, lays-unsigned, lays-signed-plus, lays-signed-minus}
 use Rattle.compiler.proofs.Names.{noted-is, lays-variable}
@@ -56,7 +56,7 @@ use Rattle.compiler.proofs.walk.advance.Reads as advance-reads
 use Rattle.compiler.proofs.walk.emitted.Reads as emitted-reads
 use Rattle.compiler.proofs.walk.expect.Reads as expect-reads
 use Rattle.compiler.proofs.walk.fixed_ahead.Reads as fixed-ahead-reads
-use Rattle.compiler.proofs.walk.operand.Reads as operand-reads
+use Rattle.tables.proofs.operand.Reads as operand-reads
 use Rattle.compiler.proofs.expression.+bracket+expression+factor+first_term+term.{
   statement,
 }
