@@ -3,7 +3,7 @@ use mathlib.Core.Path.{_≡_}
 use mathlib.Core.List.{List, []}
 use mathlib.Core.Bool.{Bool, true, false, cond, _||_}
 use mathlib.Core.Logic.{_⊎_}
-use Prim.Native.Nat.{ℕ, _+_, _≤_, max}
+use Prim.Native.Nat.{ℕ, _+_, _≤_, _<_, max}
 use Prim.Native.Char.{code}
 use lib.Dec.{ltb, eqb}
 use lib.IntN.{ℤ, pos}
@@ -104,9 +104,21 @@ operation-number b =
     (cond (eqb b (code "<")) (number smaller)
     (number greater))))))
 
--- after both sides: one instruction more, and the need of both
-unfoldable pub joined-walk : Gives → Walk → Gives → Read
-joined-walk left w right = Done (one-instruction w) (record { need = max (left .need) (1 + right .need) })
+-- after both sides: one instruction more, and the need of both; a refusal stays
+unfoldable pub joined-walk : Gives → Read → Read
+joined-walk left (Done w right) = Done (one-instruction w) (record { need = max (left .need) (1 + right .need) })
+joined-walk left (Refused why p) = Refused why p
+
+-- ---- an instruction after what was read
+
+-- there is room in the code's numbers
+unfoldable pub Fits : Read → Type 0
+Fits (Done w g) = (w .code < 10000000) × (g .need < 10000000)
+Fits (Refused why p) = Unit {0}
+
+unfoldable pub put-after : List ℤ → Read → List ℤ → List ℤ
+put-after table (Done w g) numbers = put table (w .code) numbers
+put-after table (Refused why p) numbers = table
 
 -- ---- names
 

@@ -32,7 +32,7 @@ use Rattle.compiler.proofs.Names.{noted-is, lays-variable}
 use Rattle.compiler.proofs.Looked.{flag-off, flag-on, going, literal-goes, name-goes, signs, Is-one, is-one}
 use Rattle.compiler.proofs.Reading.{met}
 use Rattle.compiler.proofs.Passes.{factor-way, term-so-far, term-way, first-term-way, expression-way, literal-factor, variable-factor, no-factor, bracket-too-deep, bracket-refused, bracket-closed, bracket-unclosed, term-first, term-whole, unsigned-leads, signed-leads, expression-whole, lost-first}
-use Rattle.compiler.proofs.Replies.{Got, got, done, Said, said-got, said-barred, said, said-begun, read-to, barred, stopped, handed-on, past, gives-need, unread, expected, code-fits, ready-past, ready-got, counts-got, term-joins, expression-joins, right-lost, right-refused, right-later, Rounds, round-on}
+use Rattle.compiler.proofs.Replies.{Got, got, done, Said, said-got, said-barred, said, said-begun, to-go, barred, stopped, handed-on, past, gives-need, unread, expected, code-fits, ready-past, ready-got, counts-got, fits-read, term-joins, expression-joins, right-lost, right-less, Rounds, round-on}
 use Rattle.compiler.proofs.expression.bracket.Reads as bracket
 use Rattle.compiler.proofs.expression.bracket.Kinds as bracket-kinds
 use Rattle.compiler.proofs.expression.+bracket+expression+factor+first_term+term.Lts-bracket as bracket-lts
@@ -270,7 +270,7 @@ abbrev expression-Inv-loop : expression-lts.InvT-loop
 expression-Inv-loop allow text names table₀ so-far₀ table so-far = Rounds first-term-way text names table₀ allow so-far₀ table so-far
 
 abbrev expression-μ-loop : expression-lts.MeasureT-loop
-expression-μ-loop allow text names table₀ so-far₀ table so-far = length text - read-to so-far
+expression-μ-loop allow text names table₀ so-far₀ table so-far = to-go text so-far
 
 expression-loop-holds : (t : ℕ) → expression-lts.Need-loop-holds (expression-calls t) (expression-at t) expression.Post expression-Inv-loop expression-μ-loop
 expression-loop-holds t c = record { count = refl; on = λ before w s. s }
@@ -298,20 +298,14 @@ expression-returns-3 t c = stopped expression-way _ _ _ _ _ _ _ (c .enum-told2 .
 expression-term-requires : (t : ℕ) → expression-lts.Need-term-requires (expression-calls t) (expression-at t) expression.Post expression-Inv-loop expression-μ-loop
 expression-term-requires t c κs = (omega (arith, c .before .before .before .before .before .before .before .before .before .before .before .before .before .before .before .before .before .pre .0), (ready-past (ready-got (c .before .before .before .before .before .before .before .before .before .before .before .before .before .before .before .before .before .pre .1) (expression-now t (c .before .before .before .before .before .before .before .before .before))) _ (le-refl _) (past _ _ _ (c .before .before .before .before .advance .ensures) (c .before .before .a .given .1))))
 
-expression-returns-4 : (t : ℕ) → expression-lts.Need-returns-4 (expression-calls t) (expression-at t) expression.Post expression-Inv-loop expression-μ-loop
-expression-returns-4 t c = stopped expression-way _ _ _ _ _ _ _ (c .enum-told3 .given .1) (right-refused expression-joins (expression-now t (c .before .before .before .before .before .before .before .before .before .before .before .before .before)) (c .before .before .before .before .before .before .before .before .before .before .before .fixed-ahead .ensures) (sym (c .before .before .before .before .before .before .before .before .before .before .is-sign .ensures) ∙ flag-on _ (c .before .before .before .before .before .before .before .before .before .if1 .left)) (past _ _ _ (c .before .before .before .before .before .before .before .before .advance .ensures) (c .before .before .before .before .before .before .a .given .1)) _ _ (barred term-way _ _ _ _ _ _ _ (c .enum-told3 .given .1) (c .before .before .before .term .ensures)))
-
 expression-joined-requires : (t : ℕ) → expression-lts.Need-joined-requires (expression-calls t) (expression-at t) expression.Post expression-Inv-loop expression-μ-loop
-expression-joined-requires t c κs = counts-got (ready-past (ready-got (c .before .before .before .before .before .before .before .before .before .before .before .before .before .before .before .before .before .before .before .before .before .before .before .pre .1) (expression-now t (c .before .before .before .before .before .before .before .before .before .before .before .before .before .before .before))) _ (le-refl _) (past _ _ _ (c .before .before .before .before .before .before .before .before .before .before .advance .ensures) (c .before .before .before .before .before .before .before .before .a .given .1))) (got term-way (c .before .before .r .given .1) (c .before .before .before .before .before .term .ensures))
+expression-joined-requires t c κs = fits-read (ready-past (ready-got (c .before .before .before .before .before .before .before .before .before .before .before .before .before .before .before .before .before .before .before .before .pre .1) (expression-now t (c .before .before .before .before .before .before .before .before .before .before .before .before))) _ (le-refl _) (past _ _ _ (c .before .before .before .before .before .before .before .advance .ensures) (c .before .before .before .before .before .a .given .1))) term-way _ _ _ _ _ (c .before .before .term .ensures)
 
 expression-loop-less : (t : ℕ) → expression-lts.Need-loop-less (expression-calls t) (expression-at t) expression.Post expression-Inv-loop expression-μ-loop
-unfolding one-instruction joined-walk
-expression-loop-less t c =
-    let l = right-later expression-joins (expression-now t (c .before .before .before .before .before .before .before .before .before .before .before .before .before .before .before .before .before)) (c .before .before .before .before .before .before .before .before .before .before .before .before .before .before .before .fixed-ahead .ensures) (sym (c .before .before .before .before .before .before .before .before .before .before .before .before .before .before .is-sign .ensures) ∙ flag-on _ (c .before .before .before .before .before .before .before .before .before .before .before .before .before .if1 .left)) (past _ _ _ (c .before .before .before .before .before .before .before .before .before .before .before .before .advance .ensures) (c .before .before .before .before .before .before .before .before .before .before .a .given .1)) (got term-way (c .before .before .before .before .r .given .1) (c .before .before .before .before .before .before .before .term .ensures)) in
-    rw (c .before .joined .ensures .0, c .before .before .before .before .before .before .before .before .before .before .before .before .before .before .before .before .before .so-far .given .1) (omega (arith, l .0, l .1 .order, l .1 .within))
+expression-loop-less t c = rw (c .before .joined .ensures .0, c .before .before .before .before .before .before .before .before .before .before .before .before .before .before .so-far .given .1) (right-less expression-joins (expression-now t (c .before .before .before .before .before .before .before .before .before .before .before .before .before .before)) (c .before .before .before .before .before .before .before .before .before .before .before .before .fixed-ahead .ensures) (sym (c .before .before .before .before .before .before .before .before .before .before .before .is-sign .ensures) ∙ flag-on _ (c .before .before .before .before .before .before .before .before .before .before .if1 .left)) (past _ _ _ (c .before .before .before .before .before .before .before .before .before .advance .ensures) (c .before .before .before .before .before .before .before .a .given .1)) _ _ (c .before .before .before .before .term .ensures))
 
 expression-loop-again : (t : ℕ) → expression-lts.Need-loop-again (expression-calls t) (expression-at t) expression.Post expression-Inv-loop expression-μ-loop
-expression-loop-again t c = rw (c .before .joined .ensures .0, c .before .joined .ensures .1) (round-on expression-joins (c .before .before .before .before .before .before .before .before .before .before .before .before .before .before .before .before .before .so-far .given .1) (c .before .before .before .before .before .before .before .before .before .before .before .before .before .before .before .before .before .before .before .loop .inv) (c .before .before .before .before .before .before .before .before .before .before .before .before .before .before .before .fixed-ahead .ensures) (sym (c .before .before .before .before .before .before .before .before .before .before .before .before .before .before .is-sign .ensures) ∙ flag-on _ (c .before .before .before .before .before .before .before .before .before .before .before .before .before .if1 .left)) (past _ _ _ (c .before .before .before .before .before .before .before .before .before .before .before .before .advance .ensures) (c .before .before .before .before .before .before .before .before .before .before .a .given .1)) (got term-way (c .before .before .before .before .r .given .1) (c .before .before .before .before .before .before .before .term .ensures)) (c .before .before .before .before .before .before .before .term .kept .1 .1 .1 .0))
+expression-loop-again t c = rw (c .before .joined .ensures .0, c .before .joined .ensures .1) (round-on expression-joins (c .before .before .before .before .before .before .before .before .before .before .before .before .before .before .so-far .given .1) (c .before .before .before .before .before .before .before .before .before .before .before .before .before .before .before .before .loop .inv) (c .before .before .before .before .before .before .before .before .before .before .before .before .fixed-ahead .ensures) (sym (c .before .before .before .before .before .before .before .before .before .before .before .is-sign .ensures) ∙ flag-on _ (c .before .before .before .before .before .before .before .before .before .before .if1 .left)) (past _ _ _ (c .before .before .before .before .before .before .before .before .before .advance .ensures) (c .before .before .before .before .before .before .before .a .given .1)) _ _ (c .before .before .before .before .term .ensures) (c .before .before .before .before .term .kept .1 .1 .1 .0))
 
 factor-emitted-requires : (t : ℕ) → factor-lts.Need-emitted-requires (factor-calls t) (factor-at t) factor.Post
 factor-emitted-requires t c κs = code-fits (c .before .before .before .before .before .before .before .before .pre .1)
@@ -384,7 +378,7 @@ abbrev term-Inv-loop : term-lts.InvT-loop
 term-Inv-loop allow text names table₀ so-far₀ table so-far = Rounds term-so-far text names table₀ allow so-far₀ table so-far
 
 abbrev term-μ-loop : term-lts.MeasureT-loop
-term-μ-loop allow text names table₀ so-far₀ table so-far = length text - read-to so-far
+term-μ-loop allow text names table₀ so-far₀ table so-far = to-go text so-far
 
 term-loop-holds : (t : ℕ) → term-lts.Need-loop-holds (term-calls t) (term-at t) term.Post term-Inv-loop term-μ-loop
 term-loop-holds t c = record { count = refl; on = λ before w s. s }
@@ -412,20 +406,14 @@ term-returns-3 t c = stopped term-way _ _ _ _ _ _ _ (c .enum-told2 .given .1) (r
 term-factor-requires-2 : (t : ℕ) → term-lts.Need-factor-requires-2 (term-calls t) (term-at t) term.Post term-Inv-loop term-μ-loop
 term-factor-requires-2 t c κs = (omega (arith, c .before .before .before .before .before .before .before .before .before .before .before .before .before .before .before .before .before .pre .0), (ready-past (ready-got (c .before .before .before .before .before .before .before .before .before .before .before .before .before .before .before .before .before .pre .1) (term-now t (c .before .before .before .before .before .before .before .before .before))) _ (le-refl _) (past _ _ _ (c .before .before .before .before .advance .ensures) (c .before .before .a .given .1))))
 
-term-returns-4 : (t : ℕ) → term-lts.Need-returns-4 (term-calls t) (term-at t) term.Post term-Inv-loop term-μ-loop
-term-returns-4 t c = stopped term-way _ _ _ _ _ _ _ (c .enum-told3 .given .1) (right-refused term-joins (term-now t (c .before .before .before .before .before .before .before .before .before .before .before .before .before)) (c .before .before .before .before .before .before .before .before .before .before .before .fixed-ahead .ensures) (sym (c .before .before .before .before .before .before .before .before .before .before .is-mul .ensures) ∙ flag-on _ (c .before .before .before .before .before .before .before .before .before .if1 .left)) (past _ _ _ (c .before .before .before .before .before .before .before .before .advance .ensures) (c .before .before .before .before .before .before .a .given .1)) _ _ (barred factor-way _ _ _ _ _ _ _ (c .enum-told3 .given .1) (c .before .before .before .factor2 .ensures)))
-
 term-joined-requires : (t : ℕ) → term-lts.Need-joined-requires (term-calls t) (term-at t) term.Post term-Inv-loop term-μ-loop
-term-joined-requires t c κs = counts-got (ready-past (ready-got (c .before .before .before .before .before .before .before .before .before .before .before .before .before .before .before .before .before .before .before .before .before .before .before .pre .1) (term-now t (c .before .before .before .before .before .before .before .before .before .before .before .before .before .before .before))) _ (le-refl _) (past _ _ _ (c .before .before .before .before .before .before .before .before .before .before .advance .ensures) (c .before .before .before .before .before .before .before .before .a .given .1))) (got factor-way (c .before .before .r .given .1) (c .before .before .before .before .before .factor2 .ensures))
+term-joined-requires t c κs = fits-read (ready-past (ready-got (c .before .before .before .before .before .before .before .before .before .before .before .before .before .before .before .before .before .before .before .before .pre .1) (term-now t (c .before .before .before .before .before .before .before .before .before .before .before .before))) _ (le-refl _) (past _ _ _ (c .before .before .before .before .before .before .before .advance .ensures) (c .before .before .before .before .before .a .given .1))) factor-way _ _ _ _ _ (c .before .before .factor2 .ensures)
 
 term-loop-less : (t : ℕ) → term-lts.Need-loop-less (term-calls t) (term-at t) term.Post term-Inv-loop term-μ-loop
-unfolding one-instruction joined-walk
-term-loop-less t c =
-    let l = right-later term-joins (term-now t (c .before .before .before .before .before .before .before .before .before .before .before .before .before .before .before .before .before)) (c .before .before .before .before .before .before .before .before .before .before .before .before .before .before .before .fixed-ahead .ensures) (sym (c .before .before .before .before .before .before .before .before .before .before .before .before .before .before .is-mul .ensures) ∙ flag-on _ (c .before .before .before .before .before .before .before .before .before .before .before .before .before .if1 .left)) (past _ _ _ (c .before .before .before .before .before .before .before .before .before .before .before .before .advance .ensures) (c .before .before .before .before .before .before .before .before .before .before .a .given .1)) (got factor-way (c .before .before .before .before .r .given .1) (c .before .before .before .before .before .before .before .factor2 .ensures)) in
-    rw (c .before .joined .ensures .0, c .before .before .before .before .before .before .before .before .before .before .before .before .before .before .before .before .before .so-far .given .1) (omega (arith, l .0, l .1 .order, l .1 .within))
+term-loop-less t c = rw (c .before .joined .ensures .0, c .before .before .before .before .before .before .before .before .before .before .before .before .before .before .so-far .given .1) (right-less term-joins (term-now t (c .before .before .before .before .before .before .before .before .before .before .before .before .before .before)) (c .before .before .before .before .before .before .before .before .before .before .before .before .fixed-ahead .ensures) (sym (c .before .before .before .before .before .before .before .before .before .before .before .is-mul .ensures) ∙ flag-on _ (c .before .before .before .before .before .before .before .before .before .before .if1 .left)) (past _ _ _ (c .before .before .before .before .before .before .before .before .before .advance .ensures) (c .before .before .before .before .before .before .before .a .given .1)) _ _ (c .before .before .before .before .factor2 .ensures))
 
 term-loop-again : (t : ℕ) → term-lts.Need-loop-again (term-calls t) (term-at t) term.Post term-Inv-loop term-μ-loop
-term-loop-again t c = rw (c .before .joined .ensures .0, c .before .joined .ensures .1) (round-on term-joins (c .before .before .before .before .before .before .before .before .before .before .before .before .before .before .before .before .before .so-far .given .1) (c .before .before .before .before .before .before .before .before .before .before .before .before .before .before .before .before .before .before .before .loop .inv) (c .before .before .before .before .before .before .before .before .before .before .before .before .before .before .before .fixed-ahead .ensures) (sym (c .before .before .before .before .before .before .before .before .before .before .before .before .before .before .is-mul .ensures) ∙ flag-on _ (c .before .before .before .before .before .before .before .before .before .before .before .before .before .if1 .left)) (past _ _ _ (c .before .before .before .before .before .before .before .before .before .before .before .before .advance .ensures) (c .before .before .before .before .before .before .before .before .before .before .a .given .1)) (got factor-way (c .before .before .before .before .r .given .1) (c .before .before .before .before .before .before .before .factor2 .ensures)) (c .before .before .before .before .before .before .before .factor2 .kept .1 .1 .1 .0))
+term-loop-again t c = rw (c .before .joined .ensures .0, c .before .joined .ensures .1) (round-on term-joins (c .before .before .before .before .before .before .before .before .before .before .before .before .before .before .so-far .given .1) (c .before .before .before .before .before .before .before .before .before .before .before .before .before .before .before .before .loop .inv) (c .before .before .before .before .before .before .before .before .before .before .before .before .fixed-ahead .ensures) (sym (c .before .before .before .before .before .before .before .before .before .before .before .is-mul .ensures) ∙ flag-on _ (c .before .before .before .before .before .before .before .before .before .before .if1 .left)) (past _ _ _ (c .before .before .before .before .before .before .before .before .before .advance .ensures) (c .before .before .before .before .before .before .before .a .given .1)) _ _ (c .before .before .before .before .factor2 .ensures) (c .before .before .before .before .factor2 .kept .1 .1 .1 .0))
 
 pub +bracket+expression+factor+first-term+term-spec : {M : Type 1} → statement M
 +bracket+expression+factor+first-term+term-spec =
@@ -463,10 +451,6 @@ pub +bracket+expression+factor+first-term+term-spec : {M : Type 1} → statement
     (λ c. search needs)
     (expression-returns-3 t)
     (expression-term-requires t)
-    (λ c. search needs)
-    (λ c. search needs)
-    (λ c. search needs)
-    (expression-returns-4 t)
     (expression-joined-requires t)
     (expression-loop-less t)
     (expression-loop-again t))
@@ -536,10 +520,6 @@ pub +bracket+expression+factor+first-term+term-spec : {M : Type 1} → statement
     (λ c. search needs)
     (term-returns-3 t)
     (term-factor-requires-2 t)
-    (λ c. search needs)
-    (λ c. search needs)
-    (λ c. search needs)
-    (term-returns-4 t)
     (term-joined-requires t)
     (term-loop-less t)
     (term-loop-again t)
