@@ -18,7 +18,7 @@ use Rattle.compiler.specs.declared.walk.Walk.{Walk}
 use Rattle.compiler.specs.declared.walk.Gives.{Gives}
 use Rattle.compiler.specs.declared.walk.Read.{Read}
 use Rattle.compiler.specs.declared.walk.Read.the-variants.{Done, Refused}
-use Rattle.compiler.specs.Steps.{moved-to, one-instruction, Fits, put-after, joined-walk, operation-number, Follows, Past, Advances, Expects}
+use Rattle.compiler.specs.Steps.{moved-to, one-instruction, Fits, put-after, followed-by, joined-walk, operation-number, Follows, Past, Advances, Expects}
 use Rattle.tables.specs.Tables.{put}
 use Rattle.compiler.specs.Walks.{Lays, Ready, Reads}
 use Rattle.tables.proofs.Emits.{length-put}
@@ -101,6 +101,13 @@ module _ {k k′ : Kind} {way : Way k (Sen Name k)} {way′ : Way k′ (Sen Name
   unfolding Reads
   handed-on l f (Done v g) q = (makes (q .0), l .passes (q .0) (q .1), f (q .0) v g (q .2))
   handed-on l f (Refused why p) q = l .refuses why p q
+
+  -- with one instruction more
+  pub followed-read : Leads text (w .next) (u .next) allow way allow′ way′ makes → (numbers : List ℤ) → ((x : Sen Name k′) (v : Walk) (g : Gives) → Lays text names table u x names′ table′ v g → Lays text names table w (makes x) names′ (put table′ (v .code) numbers) (one-instruction v) g) →
+      (r : Read) → Reads k′ (way′ .start) (way′ .stop) text names table u allow′ r names′ table′ → Reads k (way .start) (way .stop) text names table w allow (followed-by r) names′ (put-after table′ r numbers)
+  unfolding Reads followed-by put-after one-instruction
+  followed-read l numbers f (Done v g) q = (makes (q .0), l .passes (q .0) (q .1), f (q .0) v g (q .2))
+  followed-read l numbers f (Refused why p) q = l .refuses why p q
 
 -- ---- advances taken apart
 

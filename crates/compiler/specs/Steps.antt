@@ -116,6 +116,10 @@ unfoldable pub Fits : Read → Type 0
 Fits (Done w g) = (w .code < 10000000) × (g .need < 10000000)
 Fits (Refused why p) = Unit {0}
 
+unfoldable pub followed-by : Read → Read
+followed-by (Done w g) = Done (one-instruction w) g
+followed-by (Refused why p) = Refused why p
+
 unfoldable pub put-after : List ℤ → Read → List ℤ → List ℤ
 put-after table (Done w g) numbers = put table (w .code) numbers
 put-after table (Refused why p) numbers = table

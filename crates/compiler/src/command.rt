@@ -25,10 +25,7 @@ fn print_int(allow: usize, text: &[u8], names: &[usize], table: &mut [i32], w: W
     ensures { λ r. ⌜ Reads-print (now (text .entry)) (now (names .entry)) (now (table .entry)) w allow r (now (names .entry)) (now (table .exit)) ⌝ }
 {
     let r = expression::expression(allow, text, names, table, w);
-    let Read::Done(x, g) = r else {
-        return r;
-    };
-    Read::Done(walk::emitted(table, x, operations::PRINT_INT, 0), g)
+    walk::followed(table, r, operations::PRINT_INT, 0)
 }
 
 // The operation of PRINTLNS, which prints a line, or of PRINTS.
@@ -108,13 +105,7 @@ fn assign(allow: usize, text: &[u8], names: &[usize], table: &mut [i32], w: Walk
         return a;
     };
     let r = expression::expression(allow, text, names, table, x);
-    let Read::Done(y, g) = r else {
-        return r;
-    };
-    Read::Done(
-        walk::emitted(table, y, operations::STORE_STACK, naming::operand(c)),
-        g,
-    )
+    walk::followed(table, r, operations::STORE_STACK, naming::operand(c))
 }
 
 // ---- around the body of an IF or a WHILE

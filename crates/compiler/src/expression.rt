@@ -116,13 +116,10 @@ fn first_term(allow: usize, text: &[u8], names: &[usize], table: &mut [i32], w: 
         return a;
     };
     let r = term(allow, text, names, table, x);
-    let Read::Done(y, g) = r else {
-        return r;
-    };
     if f == b'-' {
-        return Read::Done(walk::emitted(table, y, operations::NEGATE, 0), g);
+        return walk::followed(table, r, operations::NEGATE, 0);
     }
-    Read::Done(y, g)
+    r
 }
 
 pub fn expression(allow: usize, text: &[u8], names: &[usize], table: &mut [i32], w: Walk) -> Read
@@ -163,10 +160,7 @@ pub fn condition(allow: usize, text: &[u8], names: &[usize], table: &mut [i32], 
         return a;
     };
     let r = condition(allow - 1, text, names, table, x);
-    let Read::Done(y, g) = r else {
-        return r;
-    };
-    Read::Done(walk::emitted(table, y, operations::NOT, 0), g)
+    walk::followed(table, r, operations::NOT, 0)
 }
 
 // An Expression, one relation, an Expression.

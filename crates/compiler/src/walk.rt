@@ -5,7 +5,7 @@ ghost use Prim.Native.Nat.{_+_, _≤_, _<_, max};
 ghost use lib.ListN.{length};
 ghost use Rattle.lexeme.specs.Coded.{fixed-number};
 ghost use Rattle.tables.specs.Tables.{put};
-ghost use Rattle.compiler.specs.Steps.{start-at, one-instruction, faulted-walk, Advances, Expects};
+ghost use Rattle.compiler.specs.Steps.{start-at, one-instruction, faulted-walk, Fits, put-after, followed-by, Advances, Expects};
 use base::Refusal;
 use lexeme::Found;
 use lexeme::Kind;
@@ -56,6 +56,17 @@ pub fn emitted(table: &mut [i32], w: Walk, operation: i32, operand: i32) -> Walk
 {
     tables::put(table, w.code, operation, operand);
     skipped(w)
+}
+
+// What was read, with one instruction more. A refusal stays.
+pub fn followed(table: &mut [i32], r: Read, operation: i32, operand: i32) -> Read
+    requires { ⌜ Fits r ⌝ }
+    ensures { λ s. ⌜ (s ≡ followed-by r) × (now (table .exit) ≡ put-after (now (table .entry)) r (operation ∷ operand ∷ [])) ⌝ }
+{
+    let Read::Done(w, g) = r else {
+        return r;
+    };
+    Read::Done(emitted(table, w, operation, operand), g)
 }
 
 // The walk with a name's refusal, unless it had one.
