@@ -19,7 +19,7 @@ use Rattle.lexeme.specs.declared.Lexeme as code
 use Rattle.lexeme.specs.declared.Found.the-variants as reply
 use Rattle.lexeme.proofs.Kind.{the-type}
 use Rattle.lexeme.proofs.Places.{refused-goes}
-use Rattle.sentence.specs.Sentences.{Kind, Sen, command, declare, input, assign, error, block, single, then}
+use Rattle.sentence.specs.Sentences.{Kind, Sen, expression, command, declare, input, assign, error, block, single, then}
 use Rattle.sentence.proofs.Reader.{Around, State, after-command}
 use Rattle.names.specs.Held.{counts, declared-in, opened-in, closed-in}
 use Rattle.compiler.specs.declared.walk.Walk.{Walk}
@@ -144,14 +144,10 @@ module _ {text names : List ℕ} {w : Walk} {allow : ℕ} (ready : Ready text na
     pub value-leads : Leads text (w .next) (x .next) allow (assign-way (name-of text l)) allow expression-way (assign (name-of text l))
     value-leads = assign-leads allow (name-of text l) (ready .stands) (rw named-next at (becomes-met .met))
 
-    pub assigned : {table table′ : List ℤ} {v : Walk} {g : Gives} → Got expression-way text names table x allow names table′ v g → Got (assign-way (name-of text l)) text names table w allow names (put table′ (v .code) (pos 4 ∷ pos (cell-number (cell-of text names l)) ∷ [])) (one-instruction v) g
+    pub assigned : {table table′ : List ℤ} (e : Sen Name expression) (v : Walk) (g : Gives) → Lays text names table x e names table′ v g → Lays text names table w (assign (name-of text l) e) names (put table′ (v .code) (pos 4 ∷ pos (cell-number (cell-of text names l)) ∷ [])) (one-instruction v) g
     unfolding one-instruction
-    assigned {table} {table′} {v} {g} value =
-        record {
-          what = assign (name-of text l) (value .what);
-          passed = value-leads .passes (value .what) (value .passed);
-          laid = lays-assign l (x .next) (omega (arith, ap (λ (m : code.Lexeme). m .place) named-next, ready .stands .order, ap (λ (m : code.Lexeme). m .end) named-next, becomes-met .past .follows .later)) (ready .sound) (subst (λ (u : Walk). Lays text names table u (value .what) names table′ v g) (becomes-met .past .moved) (value .laid));
-        }
+    assigned {table} {table′} e v g laid =
+        lays-assign l (x .next) (omega (arith, ap (λ (m : code.Lexeme). m .place) named-next, ready .stands .order, ap (λ (m : code.Lexeme). m .end) named-next, becomes-met .past .follows .later)) (ready .sound) (subst (λ (u : Walk). Lays text names table u e names table′ v g) (becomes-met .past .moved) laid)
 
 -- ---- the first lexeme of a command
 

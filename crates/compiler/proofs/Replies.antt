@@ -1,15 +1,15 @@
 -- What a reader's answer says, taken apart, and handed on by the reader that called it. Assumes nothing.
-use mathlib.Core.Path.{_≡_, sym, ap, subst, _∙_}
+use mathlib.Core.Path.{_≡_, refl, sym, ap, subst, _∙_}
 use mathlib.Core.List.{List, [], _∷_}
 use mathlib.Core.Bool.{true}
 use mathlib.Core.Logic.{inl, inr}
-use Prim.Native.Nat.{ℕ, _+_, _≤_, _<_, max}
+use Prim.Native.Nat.{ℕ, suc, _+_, _-_, _≤_, _<_, max}
 use native.Mathlib.Omega.{arith}
 use lib.IntN.{ℤ, pos}
 use lib.ListN.{length}
 use Rattle.base.specs.declared.Refusal.{Refusal}
 use Rattle.lexeme.specs.Lexemes.{Name, Lexeme, next}
-use Rattle.lexeme.specs.Coded.{coded, fixed-number, Stands}
+use Rattle.lexeme.specs.Coded.{coded, fixed-number}
 use Rattle.lexeme.specs.declared.Lexeme as code
 use Rattle.lexeme.specs.declared.Found.the-variants as reply
 use Rattle.sentence.specs.Sentences.{Kind, Sen, multiply, add, compare}
@@ -18,7 +18,7 @@ use Rattle.compiler.specs.declared.walk.Walk.{Walk}
 use Rattle.compiler.specs.declared.walk.Gives.{Gives}
 use Rattle.compiler.specs.declared.walk.Read.{Read}
 use Rattle.compiler.specs.declared.walk.Read.the-variants.{Done, Refused}
-use Rattle.compiler.specs.Steps.{moved-to, one-instruction, joined-walk, operation-number, Follows, Past, Advances, Expects}
+use Rattle.compiler.specs.Steps.{moved-to, one-instruction, Fits, put-after, followed-by, joined-walk, operation-number, Follows, Past, Advances, Expects}
 use Rattle.tables.specs.Tables.{put}
 use Rattle.compiler.specs.Walks.{Lays, Ready, Reads}
 use Rattle.tables.proofs.Emits.{length-put}
@@ -79,10 +79,20 @@ unfolding Said Reads
 said-begun {makes} l f (Done v g) q = record { what = makes (q .0); passed = l .passes (q .0) (q .1); laid = f (q .0) v g (q .2) }
 said-begun l f (Refused why p) q = l .refuses why p q
 
+pub unsaid : {k : Kind} (way : Way k (Sen Name k)) (text names : List ℕ) (table : List ℤ) (w : Walk) (allow : ℕ) (r : Read) (names′ : List ℕ) (table′ : List ℤ) → Said way text names table w allow r names′ table′ → Reads k (way .start) (way .stop) text names table w allow r names′ table′
+unfolding Said Reads
+unsaid way text names table w allow (Done v g) names′ table′ q = (q .what, q .passed, q .laid)
+unsaid way text names table w allow (Refused why p) names′ table′ q = q
+
 -- how far an answer leads
 abbrev pub read-to : Read → ℕ
 read-to (Done v g) = v .next .place
 read-to (Refused why p) = 0
+
+-- how much of a text an answer leaves to a loop
+abbrev pub to-go : List ℕ → Read → ℕ
+to-go text (Done v g) = suc (length text) - v .next .place
+to-go text (Refused why p) = 0
 
 -- the whole answer is the caller's
 module _ {k k′ : Kind} {way : Way k (Sen Name k)} {way′ : Way k′ (Sen Name k′)} {makes : Sen Name k′ → Sen Name k} {text names names′ : List ℕ} {table table′ : List ℤ} {w u : Walk} {allow allow′ : ℕ} where
@@ -91,6 +101,13 @@ module _ {k k′ : Kind} {way : Way k (Sen Name k)} {way′ : Way k′ (Sen Name
   unfolding Reads
   handed-on l f (Done v g) q = (makes (q .0), l .passes (q .0) (q .1), f (q .0) v g (q .2))
   handed-on l f (Refused why p) q = l .refuses why p q
+
+  -- with one instruction more
+  pub followed-read : Leads text (w .next) (u .next) allow way allow′ way′ makes → (numbers : List ℤ) → ((x : Sen Name k′) (v : Walk) (g : Gives) → Lays text names table u x names′ table′ v g → Lays text names table w (makes x) names′ (put table′ (v .code) numbers) (one-instruction v) g) →
+      (r : Read) → Reads k′ (way′ .start) (way′ .stop) text names table u allow′ r names′ table′ → Reads k (way .start) (way .stop) text names table w allow (followed-by r) names′ (put-after table′ r numbers)
+  unfolding Reads followed-by put-after one-instruction
+  followed-read l numbers f (Done v g) q = (makes (q .0), l .passes (q .0) (q .1), f (q .0) v g (q .2))
+  followed-read l numbers f (Refused why p) q = l .refuses why p q
 
 -- ---- advances taken apart
 
@@ -130,6 +147,11 @@ module _ {text names : List ℕ} {w : Walk} {allow : ℕ} (a : Ready text names 
     pub counts-got : (v .code < 10000000) × (g .need < 10000000)
     counts-got = counts-fit a (got-it .laid) (got-it .passed .stands)
 
+  pub fits-read : {k : Kind} (way : Way k (Sen Name k)) (table : List ℤ) (inside : ℕ) (r : Read) (names′ : List ℕ) (table′ : List ℤ) → Reads k (way .start) (way .stop) text names table w inside r names′ table′ → Fits r
+  unfolding Fits
+  fits-read way table inside (Done v g) names′ table′ q = counts-got (got way refl q)
+  fits-read way table inside (Refused why p) names′ table′ q = tt
+
 -- ---- two sides and the operator or relation between them
 
 pub record Joins {A : Type 0} {k k′ k″ : Kind} (sort : Sort A) (way : Way k (Sen Name k)) (way′ : Way k′ (Sen Name k′)) (out : Way k″ (Sen Name k″)) (make : Sen Name k → A → Sen Name k′ → Sen Name k″) : Type 0 where
@@ -161,14 +183,11 @@ module _ {A : Type 0} {k k′ k″ : Kind} {sort : Sort A} {way : Way k (Sen Nam
     right-leads : Leads text (w .next) (y .next) allow out allow way′ (make (so .what) (operator .which))
     right-leads = j .more allow (so .what) (so .passed) operator (passed .follows)
 
-    pub right-refused : (why : Refusal) (p : ℕ) → Barred way′ text (y .next) allow why p → Barred out text (w .next) allow why p
+    right-refused : (why : Refusal) (p : ℕ) → Barred way′ text (y .next) allow why p → Barred out text (w .next) allow why p
     right-refused why p q = right-leads .refuses why p q
 
     module _ {table₂ : List ℤ} {z : Walk} {h : Gives} (right : Got way′ text names table₁ y allow names table₂ z h) where
-      pub right-later : (left .next .place < z .next .place) × Stands text (z .next)
-      right-later = (omega (arith, so .passed .stands .order, passed .follows .later, right .passed .later), right .passed .stands)
-
-      pub right-joined : Got out text names₀ table w allow names (put table₂ (z .code) (operation-number f ∷ pos 0 ∷ [])) (one-instruction z) (record { need = max (g .need) (1 + h .need) })
+      right-joined : Got out text names₀ table w allow names (put table₂ (z .code) (operation-number f ∷ pos 0 ∷ [])) (one-instruction z) (record { need = max (g .need) (1 + h .need) })
       unfolding one-instruction
       right-joined = record {
         what = make (so .what) (operator .which) (right .what);
@@ -178,6 +197,18 @@ module _ {A : Type 0} {k k′ k″ : Kind} {sort : Sort A} {way : Way k (Sen Nam
             (j .lays (operator .which) (y .next) (omega (arith, so .passed .stands .some (operator .goes), passed .follows .later)) (so .laid) (subst (λ (u : Walk). Lays text names table₁ u (right .what) names table₂ z h) (passed .moved) (right .laid)));
       }
 
+    -- the right side was read, or refused
+    module _ (table₂ : List ℤ) where
+      pub right-said : (r : Read) → Reads k′ (way′ .start) (way′ .stop) text names table₁ y allow r names table₂ → Said out text names₀ table w allow (joined-walk g r) names (put-after table₂ r (operation-number f ∷ pos 0 ∷ []))
+      unfolding Said Reads joined-walk put-after
+      right-said (Done z h) q = right-joined (got way′ refl q)
+      right-said (Refused why p) q = right-refused why p q
+
+      pub right-less : (r : Read) → Reads k′ (way′ .start) (way′ .stop) text names table₁ y allow r names table₂ → to-go text (joined-walk g r) < to-go text (Done left g)
+      unfolding Reads joined-walk one-instruction
+      right-less (Done z h) q = omega (arith, so .passed .stands .order, so .passed .stands .within, passed .follows .later, q .1 .later)
+      right-less (Refused why p) q = omega (arith, so .passed .stands .order, so .passed .stands .within)
+
 -- ---- the loop of a Term or an Expression
 
 -- the rounds so far lead to the answer, whatever was read before the loop
@@ -185,10 +216,14 @@ pub record Rounds {k : Kind} (way : Way k (Sen Name k)) (text names : List ℕ) 
   pub count : length table ≡ length table₀
   pub on : (before : List ℤ) (w : Walk) → Said way text names before w allow so-far₀ names table₀ → Said way text names before w allow so-far names table
 
+pub length-after : (table : List ℤ) (r : Read) (numbers : List ℤ) → length (put-after table r numbers) ≡ length table
+unfolding put-after
+length-after table (Done w g) numbers = length-put table (w .code) numbers
+length-after table (Refused why p) numbers = refl
+
 module _ {A : Type 0} {k k′ : Kind} {sort : Sort A} {way : Way k (Sen Name k)} {way′ : Way k′ (Sen Name k′)} {make : Sen Name k → A → Sen Name k′ → Sen Name k} (j : Joins sort way way′ way make)
     {text names : List ℕ} {table₀ table₁ : List ℤ} {allow : ℕ} {so-far₀ so-far : Read} {left : Walk} {g : Gives} (is : so-far ≡ Done left g) (rounds : Rounds way text names table₀ allow so-far₀ table₁ so-far) {f : ℕ} (number : f ≡ fixed-number (left .next .kind)) (test : sort .test f ≡ true) where
   -- one round more
-  pub round-on : {y : Walk} → Past text left y → {table₂ : List ℤ} {z : Walk} {h : Gives} → Got way′ text names table₁ y allow names table₂ z h → length table₂ ≡ length table₁ →
-      Rounds way text names table₀ allow so-far₀ (put table₂ (z .code) (operation-number f ∷ pos 0 ∷ [])) (joined-walk g z h)
-  unfolding Said joined-walk
-  round-on passed right e = record { count = length-put _ _ _ ∙ e ∙ rounds .count; on = λ before w s. right-joined j (said-got way _ _ _ _ _ _ _ is (rounds .on before w s)) number test passed right }
+  pub round-on : {y : Walk} → Past text left y → (table₂ : List ℤ) (r : Read) → Reads k′ (way′ .start) (way′ .stop) text names table₁ y allow r names table₂ → length table₂ ≡ length table₁ →
+      Rounds way text names table₀ allow so-far₀ (put-after table₂ r (operation-number f ∷ pos 0 ∷ [])) (joined-walk g r)
+  round-on passed table₂ r right e = record { count = length-after table₂ r _ ∙ e ∙ rounds .count; on = λ before w s. right-said j (said-got way _ _ _ _ _ _ _ is (rounds .on before w s)) number test passed table₂ r right }

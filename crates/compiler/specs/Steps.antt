@@ -3,19 +3,18 @@ use mathlib.Core.Path.{_≡_}
 use mathlib.Core.List.{List, []}
 use mathlib.Core.Bool.{Bool, true, false, cond, _||_}
 use mathlib.Core.Logic.{_⊎_}
-use Prim.Native.Nat.{ℕ, _+_, _≤_, max}
+use Prim.Native.Nat.{ℕ, _+_, _≤_, _<_, max}
 use Prim.Native.Char.{code}
 use lib.Dec.{ltb, eqb}
 use lib.IntN.{ℤ, pos}
 use Rattle.base.specs.declared.Refusal.{Refusal}
-use Rattle.base.specs.declared.Refusal.the-variants.{NoLexeme, NoProgram, Undeclared, TooManyDeclared}
+use Rattle.base.specs.declared.Refusal.the-variants.{NoProgram, Undeclared, TooManyDeclared}
 use Rattle.base.specs.Bytes.{part}
 use Rattle.lexeme.specs.Lexemes as L
 use Rattle.lexeme.specs.Lexemes.{DO, IF, THEN, WHILE, open-brace, end, next}
 use Rattle.lexeme.specs.Coded.{code-of, coded, fixed-number, Stands}
 use Rattle.lexeme.specs.declared.Kind.the-variants as kind
 use Rattle.lexeme.specs.declared.Lexeme.{Lexeme}
-use Rattle.lexeme.specs.declared.Found.{Found}
 use Rattle.lexeme.specs.declared.Found.the-variants as reply
 use Rattle.names.specs.declared.Cell.{Cell}
 use Rattle.names.specs.declared.Cell.the-variants.{At, Nowhere}
@@ -28,7 +27,7 @@ use Rattle.tables.specs.declared.NameFault.{NameFault}
 use Rattle.tables.specs.declared.NameFault.the-variants.{Nothing, Is}
 use Rattle.compiler.specs.declared.walk.Read.{Read}
 use Rattle.compiler.specs.declared.walk.Read.the-variants.{Done, Refused}
-use Rattle.tables.specs.Tables.{put}
+use Rattle.tables.specs.Tables.{put, operand-of}
 
 -- ---- the walk
 
@@ -51,11 +50,6 @@ faulted-walk w why p = record { next = w .next; code = w .code; fault = first-fa
 
 -- ---- the lexeme ahead
 
--- a refusal of the reader of lexemes
-unfoldable pub passed-on : Found → Read
-passed-on (reply.Is l) = Refused NoLexeme (l .place)
-passed-on (reply.Refused why p) = Refused why p
-
 -- m is the lexeme after l
 pub record Follows (text : List ℕ) (l m : Lexeme) : Type 0 where
   pub read : reply.Is m ≡ coded (next text (l .end))
@@ -74,12 +68,6 @@ Advances text w need (Refused why p) = reply.Refused why p ≡ coded (next text 
 -- the lexeme ahead has this number as a fixed one, and is passed; or it has not, and no Program goes on so
 unfoldable pub Expects : List ℕ → Walk → ℕ → ℕ → Read → Type 0
 Expects text w f need r = ((fixed-number (w .next .kind) ≡ f) × Advances text w need r) ⊎ ((fixed-number (w .next .kind) ≡ f → ⊥) × (r ≡ Refused NoProgram (w .next .place)))
-
--- ---- operands
-
--- a number that an operand can hold, else 0
-unfoldable pub operand-of : ℕ → ℕ
-operand-of n = cond (ltb n 2147483648) n 0
 
 -- ---- the operation of PRINTLNS, which prints a line, or of PRINTS
 
@@ -116,9 +104,25 @@ operation-number b =
     (cond (eqb b (code "<")) (number smaller)
     (number greater))))))
 
--- after both sides: one instruction more, and the need of both
-unfoldable pub joined-walk : Gives → Walk → Gives → Read
-joined-walk left w right = Done (one-instruction w) (record { need = max (left .need) (1 + right .need) })
+-- after both sides: one instruction more, and the need of both; a refusal stays
+unfoldable pub joined-walk : Gives → Read → Read
+joined-walk left (Done w right) = Done (one-instruction w) (record { need = max (left .need) (1 + right .need) })
+joined-walk left (Refused why p) = Refused why p
+
+-- ---- an instruction after what was read
+
+-- there is room in the code's numbers
+unfoldable pub Fits : Read → Type 0
+Fits (Done w g) = (w .code < 10000000) × (g .need < 10000000)
+Fits (Refused why p) = Unit {0}
+
+unfoldable pub followed-by : Read → Read
+followed-by (Done w g) = Done (one-instruction w) g
+followed-by (Refused why p) = Refused why p
+
+unfoldable pub put-after : List ℤ → Read → List ℤ → List ℤ
+put-after table (Done w g) numbers = put table (w .code) numbers
+put-after table (Refused why p) numbers = table
 
 -- ---- names
 

@@ -25,10 +25,7 @@ fn print_int(allow: usize, text: &[u8], names: &[usize], table: &mut [i32], w: W
     ensures { λ r. ⌜ Reads-print (now (text .entry)) (now (names .entry)) (now (table .entry)) w allow r (now (names .entry)) (now (table .exit)) ⌝ }
 {
     let r = expression::expression(allow, text, names, table, w);
-    let Read::Done(x, g) = r else {
-        return r;
-    };
-    Read::Done(walk::emitted(table, x, operations::PRINT_INT, 0), g)
+    walk::followed(table, r, operations::PRINT_INT, 0)
 }
 
 // The operation of PRINTLNS, which prints a line, or of PRINTS.
@@ -102,19 +99,13 @@ fn assign(allow: usize, text: &[u8], names: &[usize], table: &mut [i32], w: Walk
     requires { ⌜ Ready (now text) (now names) w allow ⌝ }
     ensures { λ r. ⌜ Reads-assign l (now (text .entry)) (now (names .entry)) (now (table .entry)) w allow r (now (names .entry)) (now (table .exit)) ⌝ }
 {
-    let c = naming::look_up(text, names, l);
+    let c = names::look_up(text, names, l.place, l.end);
     let a = walk::expect(text, naming::noted(w, c, l), b':', 0);
     let Read::Done(x, _) = a else {
         return a;
     };
     let r = expression::expression(allow, text, names, table, x);
-    let Read::Done(y, g) = r else {
-        return r;
-    };
-    Read::Done(
-        walk::emitted(table, y, operations::STORE_STACK, naming::operand(c)),
-        g,
-    )
+    walk::followed(table, r, operations::STORE_STACK, naming::operand(c))
 }
 
 // ---- around the body of an IF or a WHILE
@@ -236,7 +227,7 @@ fn guarded(
         return t;
     };
     let end = ended(table, y, again, w.code);
-    tables::put(table, c.code, operations::JUMP_IF_FALSE, end.code as i32);
+    tables::put_jump_if_false(table, c.code, end.code);
     Read::Done(
         end,
         Gives {

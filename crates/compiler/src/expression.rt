@@ -1,12 +1,11 @@
 // Expressions and conditions: one walk reads and translates. Repetition is by loops; only brackets and NOT recurse.
 ghost use mathlib.Core.Path.{_≡_};
 ghost use mathlib.Core.List.{[], _∷_};
-ghost use Prim.Native.Nat.{suc, _<_};
+ghost use Prim.Native.Nat.{suc};
 ghost use lib.IntN.{pos};
 ghost use Rattle.lexeme.specs.Lexemes.{open-round};
 ghost use Rattle.lexeme.specs.Coded.{code-of, fixed-number};
-ghost use Rattle.compiler.specs.Steps.{joined-walk, operation-number};
-ghost use Rattle.tables.specs.Tables.{put};
+ghost use Rattle.compiler.specs.Steps.{Fits, put-after, joined-walk, operation-number};
 ghost use Rattle.compiler.specs.Walks.{Ready, Reads-factor, Reads-term, Reads-first-term, Reads-expression, Reads-condition, Reads-comparison};
 use crate::naming;
 use crate::operator;
@@ -27,7 +26,7 @@ fn factor(allow: usize, text: &[u8], names: &[usize], table: &mut [i32], w: Walk
     let kind = l.kind;
     match kind {
         Kind::Literal(v) => {
-            let x = walk::emitted(table, w, operations::PUSH_INT, walk::operand(v as usize));
+            let x = walk::emitted(table, w, operations::PUSH_INT, tables::operand(v as usize));
             walk::advance(text, x, 1)
         }
         Kind::Name => {
@@ -65,13 +64,16 @@ fn bracket(allow: usize, text: &[u8], names: &[usize], table: &mut [i32], w: Wal
     walk::expect(text, y, b')', g.need)
 }
 
-// After both sides of the operator or relation f: its operation, and the need of both.
-fn joined(table: &mut [i32], f: u8, left: Gives, w: Walk, right: Gives) -> Read
-    requires { ⌜ (w .code < 10000000) × (right .need < 10000000) ⌝ }
-    ensures { λ r. ⌜ r ≡ joined-walk left w right ⌝ }
-    ensures { λ _. ⌜ now (table .exit) ≡ put (now (table .entry)) (w .code) (operation-number f ∷ pos 0 ∷ []) ⌝ }
+// After both sides of the operator or relation f: its operation, and the need of both. A refusal of the right side stays.
+fn joined(table: &mut [i32], f: u8, left: Gives, right: Read) -> Read
+    requires { ⌜ Fits right ⌝ }
+    ensures { λ r. ⌜ r ≡ joined-walk left right ⌝ }
+    ensures { λ _. ⌜ now (table .exit) ≡ put-after (now (table .entry)) right (operation-number f ∷ pos 0 ∷ []) ⌝ }
 {
-    let need = walk::larger(left.need, 1 + right.need);
+    let Read::Done(w, g) = right else {
+        return right;
+    };
+    let need = tables::two_sided_need(left.need, g.need);
     Read::Done(
         walk::emitted(table, w, operator::operation(f), 0),
         Gives { need: need },
@@ -96,10 +98,7 @@ fn term(allow: usize, text: &[u8], names: &[usize], table: &mut [i32], w: Walk) 
             return a;
         };
         let r = factor(allow, text, names, table, y);
-        let Read::Done(z, h) = r else {
-            return r;
-        };
-        so_far = joined(table, f, g, z, h);
+        so_far = joined(table, f, g, r);
     }
 }
 
@@ -117,13 +116,10 @@ fn first_term(allow: usize, text: &[u8], names: &[usize], table: &mut [i32], w: 
         return a;
     };
     let r = term(allow, text, names, table, x);
-    let Read::Done(y, g) = r else {
-        return r;
-    };
     if f == b'-' {
-        return Read::Done(walk::emitted(table, y, operations::NEGATE, 0), g);
+        return walk::followed(table, r, operations::NEGATE, 0);
     }
-    Read::Done(y, g)
+    r
 }
 
 pub fn expression(allow: usize, text: &[u8], names: &[usize], table: &mut [i32], w: Walk) -> Read
@@ -144,10 +140,7 @@ pub fn expression(allow: usize, text: &[u8], names: &[usize], table: &mut [i32],
             return a;
         };
         let r = term(allow, text, names, table, y);
-        let Read::Done(z, h) = r else {
-            return r;
-        };
-        so_far = joined(table, f, g, z, h);
+        so_far = joined(table, f, g, r);
     }
 }
 
@@ -167,10 +160,7 @@ pub fn condition(allow: usize, text: &[u8], names: &[usize], table: &mut [i32], 
         return a;
     };
     let r = condition(allow - 1, text, names, table, x);
-    let Read::Done(y, g) = r else {
-        return r;
-    };
-    Read::Done(walk::emitted(table, y, operations::NOT, 0), g)
+    walk::followed(table, r, operations::NOT, 0)
 }
 
 // An Expression, one relation, an Expression.
@@ -192,8 +182,5 @@ fn comparison(allow: usize, text: &[u8], names: &[usize], table: &mut [i32], w: 
         return a;
     };
     let right = expression(allow, text, names, table, y);
-    let Read::Done(z, h) = right else {
-        return right;
-    };
-    joined(table, f, g, z, h)
+    joined(table, f, g, right)
 }

@@ -27,16 +27,9 @@ pub fn operand(c: Cell) -> i32
     ensures { λ r. ⌜ r ≡ pos (cell-number c) ⌝ }
 {
     match c {
-        Cell::At(k) => walk::operand(k),
+        Cell::At(k) => tables::operand(k),
         Cell::Nowhere => 0,
     }
-}
-
-// The cell of the name l.
-pub fn look_up(text: &[u8], names: &[usize], l: Lexeme) -> Cell
-    ensures { λ r. ⌜ r ≡ cell-of (now (text .entry)) (now (names .entry)) l ⌝ }
-{
-    names::look_up(text, names, l.place, l.end)
 }
 
 // A use of the name ahead: an instruction on its cell.
@@ -45,7 +38,7 @@ pub fn used(text: &[u8], names: &[usize], table: &mut [i32], w: Walk, operation:
     ensures { λ r. ⌜ (r ≡ one-instruction (noted-walk (cell-of (now (text .entry)) (now (names .entry)) (w .next)) w (w .next .place))) × (now (table .exit) ≡ put (now (table .entry)) (w .code) (operation ∷ pos (cell-number (cell-of (now (text .entry)) (now (names .entry)) (w .next))) ∷ [])) ⌝ }
 {
     let l = w.next;
-    let c = look_up(text, names, l);
+    let c = names::look_up(text, names, l.place, l.end);
     walk::emitted(table, noted(w, c, l), operation, operand(c))
 }
 

@@ -2,11 +2,10 @@
 ghost use mathlib.Core.Path.{_≡_};
 ghost use mathlib.Core.List.{[], _∷_};
 ghost use Prim.Native.Nat.{_+_, _≤_, _<_, max};
-ghost use lib.IntN.{pos};
 ghost use lib.ListN.{length};
 ghost use Rattle.lexeme.specs.Coded.{fixed-number};
 ghost use Rattle.tables.specs.Tables.{put};
-ghost use Rattle.compiler.specs.Steps.{start-at, one-instruction, moved-to, faulted-walk, passed-on, operand-of, Advances, Expects};
+ghost use Rattle.compiler.specs.Steps.{start-at, one-instruction, faulted-walk, Fits, put-after, followed-by, Advances, Expects};
 use base::Refusal;
 use lexeme::Found;
 use lexeme::Kind;
@@ -36,16 +35,6 @@ pub enum Read {
 
 // ---- instructions
 
-// A number as an operand, if an operand can hold it.
-pub fn operand(n: usize) -> i32
-    ensures { λ r. ⌜ r ≡ pos (operand-of n) ⌝ }
-{
-    if n < 2147483648 {
-        return n as i32;
-    }
-    0
-}
-
 // The walk with a place for one instruction more.
 pub fn skipped(w: Walk) -> Walk
     requires { ⌜ w .code < 10000000 ⌝ }
@@ -67,6 +56,17 @@ pub fn emitted(table: &mut [i32], w: Walk, operation: i32, operand: i32) -> Walk
 {
     tables::put(table, w.code, operation, operand);
     skipped(w)
+}
+
+// What was read, with one instruction more. A refusal stays.
+pub fn followed(table: &mut [i32], r: Read, operation: i32, operand: i32) -> Read
+    requires { ⌜ Fits r ⌝ }
+    ensures { λ s. ⌜ (s ≡ followed-by r) × (now (table .exit) ≡ put-after (now (table .entry)) r (operation ∷ operand ∷ [])) ⌝ }
+{
+    let Read::Done(w, g) = r else {
+        return r;
+    };
+    Read::Done(emitted(table, w, operation, operand), g)
 }
 
 // The walk with a name's refusal, unless it had one.
@@ -119,38 +119,27 @@ pub fn fixed_ahead(w: Walk) -> u8
     lexeme::fixed_of(kind)
 }
 
-// What is no lexeme is refused as the reader of lexemes refuses it.
-fn refused(found: Found) -> Read
-    ensures { λ r. ⌜ r ≡ passed-on found ⌝ }
-{
-    match found {
-        Found::Is(l) => Read::Refused(Refusal::NoLexeme, l.place),
-        Found::Refused(why, p) => Read::Refused(why, p),
-    }
-}
-
-fn moved(w: Walk, l: Lexeme) -> Walk
-    ensures { λ r. ⌜ r ≡ moved-to w l ⌝ }
-{
-    let fault = w.fault;
-    Walk {
-        next: l,
-        code: w.code,
-        fault: fault,
-    }
-}
-
-// Past the lexeme ahead, which ends a construct of this need.
+// Past the lexeme ahead, which ends a construct of this need; what is no lexeme is refused as the reader of lexemes refuses it.
 pub fn advance(text: &[u8], w: Walk, need: usize) -> Read
     requires { ⌜ w .next .end ≤ length (now text) ⌝ }
     ensures { λ r. ⌜ Advances (now (text .entry)) w need r ⌝ }
 {
     let l = w.next;
     let found = lexer::next(text, l.end);
-    let Found::Is(m) = found else {
-        return refused(found);
-    };
-    Read::Done(moved(w, m), Gives { need: need })
+    match found {
+        Found::Is(m) => {
+            let fault = w.fault;
+            Read::Done(
+                Walk {
+                    next: m,
+                    code: w.code,
+                    fault: fault,
+                },
+                Gives { need: need },
+            )
+        }
+        Found::Refused(why, p) => Read::Refused(why, p),
+    }
 }
 
 // One fixed lexeme, and no other, which ends a construct of this need.

@@ -12,6 +12,10 @@ use Rattle.instruction.specs.Instructions.{Instruction, push-int, encode}
 unfoldable pub put : List ℤ → ℕ → List ℤ → List ℤ
 put table n numbers = cond (ltb n (length table / 2)) (sets table (n * 2) numbers) table
 
+-- a number that an operand can hold, else 0
+unfoldable pub operand-of : ℕ → ℕ
+operand-of n = cond (ltb n 2147483648) n 0
+
 -- instructions from the n-th place on
 unfoldable pub emit : List ℤ → ℕ → List Instruction → List ℤ
 emit table n [] = table

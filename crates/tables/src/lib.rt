@@ -1,8 +1,10 @@
-// The code table, written a pair at a time as far as it has room; and what is answered of a text once its code is known.
+// The code table, written a pair at a time as far as it has room; a need; and what is answered of a text once its code is known.
 ghost use mathlib.Core.Path.{_≡_};
 ghost use mathlib.Core.List.{[], _∷_};
-ghost use Rattle.instruction.specs.Instructions.{halt, encode};
-ghost use Rattle.tables.specs.Tables.{put, opening};
+ghost use Prim.Native.Nat.{_+_, min, max};
+ghost use lib.IntN.{pos};
+ghost use Rattle.instruction.specs.Instructions.{halt, jump-if-false, encode};
+ghost use Rattle.tables.specs.Tables.{put, operand-of, opening};
 ghost use Rattle.tables.specs.Settled.{settled-by};
 use base::Refusal;
 use instruction::operations;
@@ -36,6 +38,38 @@ pub fn put_halt(table: &mut [i32], n: usize)
     ensures { λ _. ⌜ now (table .exit) ≡ put (now (table .entry)) n (encode (halt 0) []) ⌝ }
 {
     put(table, n, operations::HALT, 0);
+}
+
+// A number as an operand, if an operand can hold it.
+pub fn operand(n: usize) -> i32
+    ensures { λ r. ⌜ r ≡ pos (operand-of n) ⌝ }
+{
+    if n < 2147483648 {
+        return n as i32;
+    }
+    0
+}
+
+// The jump past a body whose condition is false.
+pub fn put_jump_if_false(table: &mut [i32], n: usize, to: usize)
+    ensures { λ _. ⌜ now (table .exit) ≡ put (now (table .entry)) n (encode (jump-if-false (operand-of to)) []) ⌝ }
+{
+    put(table, n, operations::JUMP_IF_FALSE, operand(to));
+}
+
+// ---- the stack need
+
+// The need of a two-sided form: the larger of the left need and 1 + the right need, as far as numbers go.
+pub fn two_sided_need(left: usize, right: usize) -> usize
+    ensures { λ r. ⌜ r ≡ min (max left (1 + right)) 18446744073709551615 ⌝ }
+{
+    if right < left {
+        return left;
+    }
+    if right == usize::MAX {
+        return right;
+    }
+    right + 1
 }
 
 // ---- the answer

@@ -5,21 +5,20 @@ use native.Mathlib.Nat.{le-refl}
 use native.Mathlib.Omega.{arith}
 use borrow.Author.Needs.{needs}
 use borrow.Author.Tests.{ne-eqb}
-use mir.Facts.{toZ-ofZ}
 use denote.Ref.{now}
 use lib.ListN.{length}
 use Rattle.lexeme.specs.Coded.{code-of, fixed-number}
 use Rattle.names.specs.Held.{opened-in}
+use Rattle.instruction.specs.Instructions.{encode}
 use Rattle.compiler.specs.Steps.{moved-to, one-instruction, Expects, before-body}
 use Rattle.compiler.specs.Walks.{First, Reads, want-nested}
 use Rattle.compiler.proofs.Bodies.{lost-ahead, crossed, ready-first, reads-begun, ready-inside, Headed, head-small, ready-headed, body-leads, Bodied, body-small, end-small, guarded-read, so-far-closed, More, more-on}
 use Rattle.compiler.proofs.Commands.{command-way, guarded-way, block-way, block-so-far, guarded-refused, no-body, block-first, block-more, Starts, begins-nested, too-deep-begun}
 use Rattle.compiler.proofs.Lays.{lays-single}
 use Rattle.compiler.proofs.Looked.{flag-off, flag-on}
-use Rattle.compiler.proofs.Names.{ready-opened}
+use Rattle.compiler.proofs.Names.{operand-is, ready-opened}
 use Rattle.compiler.proofs.Passes.{condition-way}
 use Rattle.compiler.proofs.Replies.{Got, got, done, Said, said-got, said-barred, said-begun, read-to, stopped, past, unread, code-fits, ready-got}
-use Rattle.compiler.proofs.Stores.{count-fits}
 use borrow.Fn.Kinds.{In}
 use borrow.Fn.PlainCycle.{Measures, is, falls, and}
 use Rattle.compiler.proofs.command.block.Reads as block
@@ -43,7 +42,7 @@ use Rattle.compiler.proofs.walk.advance.Reads as advance-reads
 use Rattle.compiler.proofs.walk.expect.Reads as expect-reads
 use Rattle.compiler.proofs.walk.fixed_ahead.Reads as fixed-ahead-reads
 use Rattle.compiler.proofs.walk.larger.Reads as larger-reads
-use Rattle.tables.proofs.put.Reads as put-reads
+use Rattle.tables.proofs.put_jump_if_false.Reads as put-jump-if-false-reads
 use Rattle.compiler.proofs.walk.skipped.Reads as skipped-reads
 use Rattle.names.proofs.close.Reads as close-reads
 use Rattle.names.proofs.counts.Reads as counts-reads
@@ -94,7 +93,7 @@ abbrev command-calls : ℕ → command-lts.Claims
 command-calls t = (fixed-ahead-reads.Asked, fixed-ahead-reads.Learnt, advance-reads.Asked, advance-reads.Learnt, has-body-reads.Asked, has-body-reads.Learnt, without-body-reads.Asked, without-body-reads.Learnt, nested-below t, nested.Post)
 
 abbrev guarded-calls : ℕ → guarded-lts.Claims
-guarded-calls t = (condition-reads.Asked, condition-reads.Learnt, before-body-reads.Asked, before-body-reads.Learnt, expect-reads.Asked, expect-reads.Learnt, skipped-reads.Asked, skipped-reads.Learnt, command-below t, command.Post, ended-reads.Asked, ended-reads.Learnt, put-reads.Asked, put-reads.Learnt, larger-reads.Asked, larger-reads.Learnt)
+guarded-calls t = (condition-reads.Asked, condition-reads.Learnt, before-body-reads.Asked, before-body-reads.Learnt, expect-reads.Asked, expect-reads.Learnt, skipped-reads.Asked, skipped-reads.Learnt, command-below t, command.Post, ended-reads.Asked, ended-reads.Learnt, put-jump-if-false-reads.Asked, put-jump-if-false-reads.Learnt, larger-reads.Asked, larger-reads.Learnt)
 
 abbrev nested-calls : ℕ → nested-lts.Claims
 nested-calls t = (block-below t, block.Post, guarded-below t, guarded.Post)
@@ -234,16 +233,15 @@ guarded-body t c = record { table₁ = _; x = _; head = guarded-head t (c .befor
 guarded-ended-requires : (t : ℕ) → guarded-lts.Need-ended-requires (guarded-calls t) (guarded-at t) guarded.Post
 guarded-ended-requires t c κs = (body-small (guarded-body t (c .before .before)), code-fits (c .before .before .before .before .before .before .before .before .before .before .before .before .before .before .before .before .before .before .before .before .before .before .before .before .before .pre .1))
 
-guarded-cast-put : (t : ℕ) → guarded-lts.Need-cast-put (guarded-calls t) (guarded-at t) guarded.Post
-guarded-cast-put t c = count-fits (rw (c .before .before .before .ended .ensures .0) (end-small (guarded-body t (c .before .before .before .before .before .before))))
-
 guarded-same-length-8 : (t : ℕ) → guarded-lts.Need-same-length-8 (guarded-calls t) (guarded-at t) guarded.Post
-guarded-same-length-8 t c = c .before .before .put .kept .0 ∙ c .before .before .before .before .before .before .ended .kept .0 ∙ c .before .before .before .before .before .before .before .before .before .before .before .before .before .before .command .kept .1 .1 .1 .0 ∙ c .before .before .before .before .before .before .before .before .before .before .before .before .before .before .before .before .before .before .before .before .before .before .before .before .before .before .before .condition .kept .1 .1 .1 .0
+guarded-same-length-8 t c = c .before .before .put-jump-if-false .kept .0 ∙ c .before .before .before .before .before .ended .kept .0 ∙ c .before .before .before .before .before .before .before .before .before .before .before .before .before .command .kept .1 .1 .1 .0 ∙ c .before .before .before .before .before .before .before .before .before .before .before .before .before .before .before .before .before .before .before .before .before .before .before .before .before .before .condition .kept .1 .1 .1 .0
 
 guarded-returns-4 : (t : ℕ) → guarded-lts.Need-returns-4 (guarded-calls t) (guarded-at t) guarded.Post
+unfolding encode
 guarded-returns-4 t c =
-    rw (c .before .before .put .ensures, toZ-ofZ (guarded-cast-put t (c .before .before .before)), c .before .before .before .before .before .before .ended .ensures .0, c .before .before .before .before .before .before .ended .ensures .1, c .larger .ensures)
-    (done (guarded-way _) refl (guarded-read (guarded-body t (c .before .before .before .before .before .before .before .before .before))))
+    let b = guarded-body t (c .before .before .before .before .before .before .before .before) in
+    rw (c .before .before .put-jump-if-false .ensures, c .before .before .before .before .before .ended .ensures .0, c .before .before .before .before .before .ended .ensures .1, operand-is _ (end-small b), c .larger .ensures)
+    (done (guarded-way _) refl (guarded-read b))
 
 nested-block-requires : (t : ℕ) → nested-lts.Need-block-requires (nested-calls t) (nested-at t) nested.Post
 nested-block-requires t c κs = (omega (arith, c .before .before .before .before .before .pre .0), c .before .before .before .before .before .pre .1)
@@ -333,7 +331,6 @@ pub +block+command+guarded+nested-spec : {M : Type 1} → statement M
     (guarded-same-length-6 t)
     (guarded-returns-3 t)
     (guarded-ended-requires t)
-    (guarded-cast-put t)
     (λ c κs. search needs)
     (λ c κs. search needs)
     (λ c. search needs)

@@ -1,25 +1,23 @@
 -- `compiler::command::assign` meets its contract. Assumes nothing.
 use borrow.Author.Needs.{needs}
-use mathlib.Core.Path.{refl}
 use denote.Ref.{now}
 use mir.Facts.{toZ-ofZ}
 use Rattle.lexeme.specs.Lexemes.{becomes}
 use Rattle.lexeme.specs.Coded.{code-of}
-use Rattle.compiler.specs.Steps.{Expects}
-use Rattle.compiler.specs.Walks.{Reads}
+use Rattle.compiler.specs.Steps.{Expects, cell-of}
 use Rattle.compiler.proofs.Bodies.{named-walk, ready-named, no-value, Crossed, crossed, ready-value, value-leads, assigned}
-use Rattle.compiler.proofs.Commands.{assign-way}
 use Rattle.compiler.proofs.Passes.{expression-way}
-use Rattle.compiler.proofs.Replies.{Got, got, done, counts-got}
+use Rattle.compiler.proofs.Replies.{fits-read, followed-read}
 use Rattle.compiler.proofs.command.assign.Statement.{statement}
 use Rattle.compiler.proofs.command.assign.Tie as tie
 
 expect-requires : tie.Need-expect-requires
+unfolding cell-of
 expect-requires c κs = rw (c .noted .ensures, c .before .look-up .ensures) (ready-named (c .before .before .before .before .pre) (c .before .before .before .before .args .l) .stands .within)
 
 -- `:=` is expected after the name was looked up
 expects : (c : tie.After-expect) → let a = c .before .before .before .before .before .args in Expects (now (a .text)) (named-walk (c .before .before .before .before .before .pre) (a .l)) (code-of becomes) 0 (c .expect .result)
-unfolding code-of
+unfolding code-of cell-of
 expects c = rw (c .before .noted .ensures, c .before .before .look-up .ensures) at (c .expect .ensures)
 
 returns : tie.Need-returns
@@ -31,19 +29,14 @@ becomes-met c = crossed _ _ _ _ (c .a .given .1) (expects (c .before .before))
 expression-requires : tie.Need-expression-requires
 expression-requires c κs = ready-value (c .before .before .before .before .before .before .before .before .before .pre) (c .before .before .before .before .before .before .before .before .before .args .l) (becomes-met (c .before .before))
 
+followed-requires : tie.Need-followed-requires
+followed-requires c κs = fits-read (ready-value (c .before .before .before .before .before .before .before .before .before .before .before .before .before .pre) (c .before .before .before .before .before .before .before .before .before .before .before .before .before .args .l) (becomes-met (c .before .before .before .before .before .before))) expression-way _ _ _ _ _ (c .before .before .before .expression .ensures)
+
 returns-2 : tie.Need-returns-2
-unfolding Reads
-returns-2 c = rw (c .enum-told2 .given .1) (value-leads (c .before .before .before .before .before .before .before .before .before .before .before .before .before .pre) (c .before .before .before .before .before .before .before .before .before .before .before .before .before .args .l) (becomes-met (c .before .before .before .before .before .before)) .refuses _ _ (rw (c .enum-told2 .given .1) at (c .before .before .before .expression .ensures)))
-
--- the Expression
-value : (c : tie.After-r) → let a = c .before .before .before .before .before .before .before .before .before .before .before .before .before .args in Got expression-way (now (a .text)) (now (a .names)) (now (a .table)) (c .before .before .before .before .before .before .a .given .0 .0) (a .allow) (now (a .names)) (c .before .before .before .expression .last .1 .1 .1 .0) (c .r .given .0 .0) (c .r .given .0 .1 .0)
-value c = got expression-way (c .r .given .1) (c .before .before .before .expression .ensures)
-
-emitted-requires : tie.Need-emitted-requires
-emitted-requires c κs = counts-got (ready-value (c .before .before .before .before .before .before .before .before .before .before .before .before .before .before .before .before .pre) (c .before .before .before .before .before .before .before .before .before .before .before .before .before .before .before .before .args .l) (becomes-met (c .before .before .before .before .before .before .before .before .before))) (value (c .before .before .before)) .0
-
-returns-3 : tie.Need-returns-3
-returns-3 c = rw (c .before .emitted .ensures .0, c .before .emitted .ensures .1, toZ-ofZ (record { sfits = c .before .before .operand .ok }), c .before .before .operand .ensures, c .before .before .before .before .before .before .before .before .before .before .before .before .before .before .before .look-up .ensures) (done (assign-way _) refl (assigned (c .before .before .before .before .before .before .before .before .before .before .before .before .before .before .before .before .before .before .pre) (c .before .before .before .before .before .before .before .before .before .before .before .before .before .before .before .before .before .before .args .l) (becomes-met (c .before .before .before .before .before .before .before .before .before .before .before)) (value (c .before .before .before .before .before))))
+unfolding cell-of
+returns-2 c =
+    rw (c .before .followed .ensures .0, c .before .followed .ensures .1, toZ-ofZ (record { sfits = c .before .before .operand .ok }), c .before .before .operand .ensures, c .before .before .before .before .before .before .before .before .before .before .before .before .look-up .ensures)
+    (followed-read (value-leads (c .before .before .before .before .before .before .before .before .before .before .before .before .before .before .before .pre) (c .before .before .before .before .before .before .before .before .before .before .before .before .before .before .before .args .l) (becomes-met (c .before .before .before .before .before .before .before .before))) _ (λ x v g. assigned (c .before .before .before .before .before .before .before .before .before .before .before .before .before .before .before .pre) (c .before .before .before .before .before .before .before .before .before .before .before .before .before .before .before .args .l) (becomes-met (c .before .before .before .before .before .before .before .before)) x v g) _ (c .before .before .before .before .before .expression .ensures))
 
 pub assign-spec : {M : Type 1} → statement M
 assign-spec =
@@ -56,11 +49,7 @@ assign-spec =
     (λ c. search needs)
     returns
     expression-requires
-    (λ c. search needs)
-    (λ c. search needs)
-    (λ c. search needs)
-    returns-2
     (λ c κs. search needs)
-    emitted-requires
+    followed-requires
     (λ c. search needs)
-    returns-3)
+    returns-2)

@@ -12,27 +12,27 @@ use mir.Facts.{toZ-ofZ}
 use denote.Ref.{now}
 use lib.IntN.{ℤ, pos}
 use lib.ListN.{length}
-use Rattle.lexeme.specs.Lexemes.{close-round, open-round}
+use Rattle.lexeme.specs.Lexemes.{Name, close-round, open-round}
 use Rattle.lexeme.specs.Coded.{code-of, kind-of, fixed-number}
 use Rattle.lexeme.specs.declared.Kind.{Kind}
 use Rattle.lexeme.specs.declared.Kind.the-variants as kind
 use Rattle.sentence.specs.Sentences as S
-use Rattle.sentence.specs.Sentences.{Sign, plus, minus, sign}
+use Rattle.sentence.specs.Sentences.{Sen, Sign, plus, minus, sign}
 use Rattle.sentence.proofs.Reader.{is-sign, is-mul}
 use Rattle.sentence.proofs.Operators.{number-of}
 use Rattle.compiler.specs.declared.walk.Walk.{Walk}
 use Rattle.compiler.specs.declared.walk.Gives.{Gives}
 use Rattle.compiler.specs.declared.walk.Read.{Read}
 use Rattle.compiler.specs.declared.walk.Read.the-variants.{Done, Refused}
-use Rattle.compiler.specs.Steps.{moved-to, one-instruction, joined-walk, noted-walk, cell-of, cell-number, operand-of, Past, Advances, Expects}
-use Rattle.tables.specs.Tables.{put}
+use Rattle.compiler.specs.Steps.{moved-to, one-instruction, joined-walk, noted-walk, cell-of, cell-number, Past, Advances, Expects}
+use Rattle.tables.specs.Tables.{put, operand-of}
 use Rattle.compiler.specs.Walks.{Reads, Reads-factor, Ready, Lays, name-of}
 use Rattle.compiler.proofs.Lays.{trail, lead, lays-literal, lays-bracket, lays-first, lays-unsigned, lays-signed-plus, lays-signed-minus}
 use Rattle.compiler.proofs.Names.{noted-is, lays-variable}
 use Rattle.compiler.proofs.Looked.{flag-off, flag-on, going, literal-goes, name-goes, signs, Is-one, is-one}
 use Rattle.compiler.proofs.Reading.{met}
 use Rattle.compiler.proofs.Passes.{factor-way, term-so-far, term-way, first-term-way, expression-way, literal-factor, variable-factor, no-factor, bracket-too-deep, bracket-refused, bracket-closed, bracket-unclosed, term-first, term-whole, unsigned-leads, signed-leads, expression-whole, lost-first}
-use Rattle.compiler.proofs.Replies.{Got, got, done, Said, said-got, said-barred, said, said-begun, read-to, barred, stopped, handed-on, past, gives-need, unread, expected, code-fits, ready-past, ready-got, counts-got, term-joins, expression-joins, right-lost, right-refused, right-later, Rounds, round-on}
+use Rattle.compiler.proofs.Replies.{Got, got, done, Said, said-got, said-barred, said, said-begun, to-go, barred, stopped, handed-on, followed-read, past, gives-need, unread, expected, code-fits, ready-past, ready-got, fits-read, term-joins, expression-joins, right-lost, right-less, Rounds, round-on}
 use Rattle.compiler.proofs.expression.bracket.Reads as bracket
 use Rattle.compiler.proofs.expression.bracket.Kinds as bracket-kinds
 use Rattle.compiler.proofs.expression.+bracket+expression+factor+first_term+term.Lts-bracket as bracket-lts
@@ -56,7 +56,8 @@ use Rattle.compiler.proofs.walk.advance.Reads as advance-reads
 use Rattle.compiler.proofs.walk.emitted.Reads as emitted-reads
 use Rattle.compiler.proofs.walk.expect.Reads as expect-reads
 use Rattle.compiler.proofs.walk.fixed_ahead.Reads as fixed-ahead-reads
-use Rattle.compiler.proofs.walk.operand.Reads as operand-reads
+use Rattle.compiler.proofs.walk.followed.Reads as followed-reads
+use Rattle.tables.proofs.operand.Reads as operand-reads
 use Rattle.compiler.proofs.expression.+bracket+expression+factor+first_term+term.{
   statement,
 }
@@ -151,33 +152,25 @@ minus-number = refl
 sign-ahead : {text names : List ℕ} {w : Walk} {allow f : ℕ} → Ready text names w allow → f ≡ fixed-number (w .next .kind) → is-sign f ≡ true → Is-one signs text (w .next)
 sign-ahead ready n h = is-one signs (ready .stands) (ap is-sign (sym n) ∙ h)
 
-module _ {text names : List ℕ} {table table′ : List ℤ} {w x v : Walk} {allow : ℕ} {g : Gives} (ready : Ready text names w allow) (o : Is-one signs text (w .next)) (p : Past text w x) (b : Got term-way text names table x allow names table′ v g) where
+module _ {text names : List ℕ} {table table′ : List ℤ} {w x : Walk} {allow : ℕ} (ready : Ready text names w allow) (o : Is-one signs text (w .next)) (p : Past text w x) (b : Sen Name S.term) (v : Walk) (g : Gives) (laid : Lays text names table x b names table′ v g) where
   sign-later : w .next .place < x .next .place
   sign-later = omega (arith, ready .stands .some (o .goes), p .follows .later)
 
-  after-sign : Lays text names table (moved-to w (x .next)) (b .what) names table′ v g
-  after-sign = subst (λ (y : Walk). Lays text names table y (b .what) names table′ v g) (p .moved) (b .laid)
+  after-sign : Lays text names table (moved-to w (x .next)) b names table′ v g
+  after-sign = subst (λ (y : Walk). Lays text names table y b names table′ v g) (p .moved) laid
 
-  minus-got : fixed-number (w .next .kind) ≡ 45 → Got first-term-way text names table w allow names (put table′ (v .code) (pos 14 ∷ pos 0 ∷ [])) (one-instruction v) g
+  minus-lays : fixed-number (w .next .kind) ≡ 45 → Lays text names table w (S.signed (o .which) b) names (put table′ (v .code) (pos 14 ∷ pos 0 ∷ [])) (one-instruction v) g
   unfolding one-instruction
-  minus-got h = record {
-    what = S.signed (o .which) (b .what);
-    passed = signed-leads (ready .stands) allow o (p .follows) .passes (b .what) (b .passed);
-    laid = by (o .which) (sym (o .number) ∙ h);
-  }
+  minus-lays h = by (o .which) (sym (o .number) ∙ h)
     where
-      by : (s : Sign) → number-of (sign s) ≡ 45 → Lays text names table w (S.signed s (b .what)) names (put table′ (v .code) (pos 14 ∷ pos 0 ∷ [])) (one-instruction v) g
+      by : (s : Sign) → number-of (sign s) ≡ 45 → Lays text names table w (S.signed s b) names (put table′ (v .code) (pos 14 ∷ pos 0 ∷ [])) (one-instruction v) g
       by plus e = absurd (plus-not-minus e)
       by minus e = lays-signed-minus (x .next) sign-later after-sign
 
-  plus-got : (fixed-number (w .next .kind) ≡ 45 → ⊥) → Got first-term-way text names table w allow names table′ v g
-  plus-got h = record {
-    what = S.signed (o .which) (b .what);
-    passed = signed-leads (ready .stands) allow o (p .follows) .passes (b .what) (b .passed);
-    laid = by (o .which) (λ e. h (o .number ∙ e));
-  }
+  plus-lays : (fixed-number (w .next .kind) ≡ 45 → ⊥) → Lays text names table w (S.signed (o .which) b) names table′ v g
+  plus-lays h = by (o .which) (λ e. h (o .number ∙ e))
     where
-      by : (s : Sign) → (number-of (sign s) ≡ 45 → ⊥) → Lays text names table w (S.signed s (b .what)) names table′ v g
+      by : (s : Sign) → (number-of (sign s) ≡ 45 → ⊥) → Lays text names table w (S.signed s b) names table′ v g
       by plus e = lays-signed-plus (x .next) sign-later after-sign
       by minus e = absurd (e minus-number)
 
@@ -240,7 +233,7 @@ abbrev factor-calls : ℕ → factor-lts.Claims
 factor-calls t = (operand-reads.Asked, operand-reads.Learnt, emitted-reads.Asked, emitted-reads.Learnt, advance-reads.Asked, advance-reads.Learnt, used-reads.Asked, used-reads.Learnt, bracket-below t, bracket.Post)
 
 abbrev first-term-calls : ℕ → first-term-lts.Claims
-first-term-calls t = (fixed-ahead-reads.Asked, fixed-ahead-reads.Learnt, is-sign-reads.Asked, is-sign-reads.Learnt, term-below t, term.Post, advance-reads.Asked, advance-reads.Learnt, emitted-reads.Asked, emitted-reads.Learnt)
+first-term-calls t = (fixed-ahead-reads.Asked, fixed-ahead-reads.Learnt, is-sign-reads.Asked, is-sign-reads.Learnt, term-below t, term.Post, advance-reads.Asked, advance-reads.Learnt, followed-reads.Asked, followed-reads.Learnt)
 
 abbrev term-calls : ℕ → term-lts.Claims
 term-calls t = (factor-below t, factor.Post, fixed-ahead-reads.Asked, fixed-ahead-reads.Learnt, is-mul-reads.Asked, is-mul-reads.Learnt, advance-reads.Asked, advance-reads.Learnt, joined-reads.Asked, joined-reads.Learnt)
@@ -270,7 +263,7 @@ abbrev expression-Inv-loop : expression-lts.InvT-loop
 expression-Inv-loop allow text names table₀ so-far₀ table so-far = Rounds first-term-way text names table₀ allow so-far₀ table so-far
 
 abbrev expression-μ-loop : expression-lts.MeasureT-loop
-expression-μ-loop allow text names table₀ so-far₀ table so-far = length text - read-to so-far
+expression-μ-loop allow text names table₀ so-far₀ table so-far = to-go text so-far
 
 expression-loop-holds : (t : ℕ) → expression-lts.Need-loop-holds (expression-calls t) (expression-at t) expression.Post expression-Inv-loop expression-μ-loop
 expression-loop-holds t c = record { count = refl; on = λ before w s. s }
@@ -298,20 +291,14 @@ expression-returns-3 t c = stopped expression-way _ _ _ _ _ _ _ (c .enum-told2 .
 expression-term-requires : (t : ℕ) → expression-lts.Need-term-requires (expression-calls t) (expression-at t) expression.Post expression-Inv-loop expression-μ-loop
 expression-term-requires t c κs = (omega (arith, c .before .before .before .before .before .before .before .before .before .before .before .before .before .before .before .before .before .pre .0), (ready-past (ready-got (c .before .before .before .before .before .before .before .before .before .before .before .before .before .before .before .before .before .pre .1) (expression-now t (c .before .before .before .before .before .before .before .before .before))) _ (le-refl _) (past _ _ _ (c .before .before .before .before .advance .ensures) (c .before .before .a .given .1))))
 
-expression-returns-4 : (t : ℕ) → expression-lts.Need-returns-4 (expression-calls t) (expression-at t) expression.Post expression-Inv-loop expression-μ-loop
-expression-returns-4 t c = stopped expression-way _ _ _ _ _ _ _ (c .enum-told3 .given .1) (right-refused expression-joins (expression-now t (c .before .before .before .before .before .before .before .before .before .before .before .before .before)) (c .before .before .before .before .before .before .before .before .before .before .before .fixed-ahead .ensures) (sym (c .before .before .before .before .before .before .before .before .before .before .is-sign .ensures) ∙ flag-on _ (c .before .before .before .before .before .before .before .before .before .if1 .left)) (past _ _ _ (c .before .before .before .before .before .before .before .before .advance .ensures) (c .before .before .before .before .before .before .a .given .1)) _ _ (barred term-way _ _ _ _ _ _ _ (c .enum-told3 .given .1) (c .before .before .before .term .ensures)))
-
 expression-joined-requires : (t : ℕ) → expression-lts.Need-joined-requires (expression-calls t) (expression-at t) expression.Post expression-Inv-loop expression-μ-loop
-expression-joined-requires t c κs = counts-got (ready-past (ready-got (c .before .before .before .before .before .before .before .before .before .before .before .before .before .before .before .before .before .before .before .before .before .before .before .pre .1) (expression-now t (c .before .before .before .before .before .before .before .before .before .before .before .before .before .before .before))) _ (le-refl _) (past _ _ _ (c .before .before .before .before .before .before .before .before .before .before .advance .ensures) (c .before .before .before .before .before .before .before .before .a .given .1))) (got term-way (c .before .before .r .given .1) (c .before .before .before .before .before .term .ensures))
+expression-joined-requires t c κs = fits-read (ready-past (ready-got (c .before .before .before .before .before .before .before .before .before .before .before .before .before .before .before .before .before .before .before .before .pre .1) (expression-now t (c .before .before .before .before .before .before .before .before .before .before .before .before))) _ (le-refl _) (past _ _ _ (c .before .before .before .before .before .before .before .advance .ensures) (c .before .before .before .before .before .a .given .1))) term-way _ _ _ _ _ (c .before .before .term .ensures)
 
 expression-loop-less : (t : ℕ) → expression-lts.Need-loop-less (expression-calls t) (expression-at t) expression.Post expression-Inv-loop expression-μ-loop
-unfolding one-instruction joined-walk
-expression-loop-less t c =
-    let l = right-later expression-joins (expression-now t (c .before .before .before .before .before .before .before .before .before .before .before .before .before .before .before .before .before)) (c .before .before .before .before .before .before .before .before .before .before .before .before .before .before .before .fixed-ahead .ensures) (sym (c .before .before .before .before .before .before .before .before .before .before .before .before .before .before .is-sign .ensures) ∙ flag-on _ (c .before .before .before .before .before .before .before .before .before .before .before .before .before .if1 .left)) (past _ _ _ (c .before .before .before .before .before .before .before .before .before .before .before .before .advance .ensures) (c .before .before .before .before .before .before .before .before .before .before .a .given .1)) (got term-way (c .before .before .before .before .r .given .1) (c .before .before .before .before .before .before .before .term .ensures)) in
-    rw (c .before .joined .ensures .0, c .before .before .before .before .before .before .before .before .before .before .before .before .before .before .before .before .before .so-far .given .1) (omega (arith, l .0, l .1 .order, l .1 .within))
+expression-loop-less t c = rw (c .before .joined .ensures .0, c .before .before .before .before .before .before .before .before .before .before .before .before .before .before .so-far .given .1) (right-less expression-joins (expression-now t (c .before .before .before .before .before .before .before .before .before .before .before .before .before .before)) (c .before .before .before .before .before .before .before .before .before .before .before .before .fixed-ahead .ensures) (sym (c .before .before .before .before .before .before .before .before .before .before .before .is-sign .ensures) ∙ flag-on _ (c .before .before .before .before .before .before .before .before .before .before .if1 .left)) (past _ _ _ (c .before .before .before .before .before .before .before .before .before .advance .ensures) (c .before .before .before .before .before .before .before .a .given .1)) _ _ (c .before .before .before .before .term .ensures))
 
 expression-loop-again : (t : ℕ) → expression-lts.Need-loop-again (expression-calls t) (expression-at t) expression.Post expression-Inv-loop expression-μ-loop
-expression-loop-again t c = rw (c .before .joined .ensures .0, c .before .joined .ensures .1) (round-on expression-joins (c .before .before .before .before .before .before .before .before .before .before .before .before .before .before .before .before .before .so-far .given .1) (c .before .before .before .before .before .before .before .before .before .before .before .before .before .before .before .before .before .before .before .loop .inv) (c .before .before .before .before .before .before .before .before .before .before .before .before .before .before .before .fixed-ahead .ensures) (sym (c .before .before .before .before .before .before .before .before .before .before .before .before .before .before .is-sign .ensures) ∙ flag-on _ (c .before .before .before .before .before .before .before .before .before .before .before .before .before .if1 .left)) (past _ _ _ (c .before .before .before .before .before .before .before .before .before .before .before .before .advance .ensures) (c .before .before .before .before .before .before .before .before .before .before .a .given .1)) (got term-way (c .before .before .before .before .r .given .1) (c .before .before .before .before .before .before .before .term .ensures)) (c .before .before .before .before .before .before .before .term .kept .1 .1 .1 .0))
+expression-loop-again t c = rw (c .before .joined .ensures .0, c .before .joined .ensures .1) (round-on expression-joins (c .before .before .before .before .before .before .before .before .before .before .before .before .before .before .so-far .given .1) (c .before .before .before .before .before .before .before .before .before .before .before .before .before .before .before .before .loop .inv) (c .before .before .before .before .before .before .before .before .before .before .before .before .fixed-ahead .ensures) (sym (c .before .before .before .before .before .before .before .before .before .before .before .is-sign .ensures) ∙ flag-on _ (c .before .before .before .before .before .before .before .before .before .before .if1 .left)) (past _ _ _ (c .before .before .before .before .before .before .before .before .before .advance .ensures) (c .before .before .before .before .before .before .before .a .given .1)) _ _ (c .before .before .before .before .term .ensures) (c .before .before .before .before .term .kept .1 .1 .1 .0))
 
 factor-emitted-requires : (t : ℕ) → factor-lts.Need-emitted-requires (factor-calls t) (factor-at t) factor.Post
 factor-emitted-requires t c κs = code-fits (c .before .before .before .before .before .before .before .before .pre .1)
@@ -368,23 +355,26 @@ first-term-returns-2 t c = stopped first-term-way _ _ _ _ _ _ _ (c .enum-told .g
 first-term-term-requires-2 : (t : ℕ) → first-term-lts.Need-term-requires-2 (first-term-calls t) (first-term-at t) first-term.Post
 first-term-term-requires-2 t c κs = (omega arith, ready-past (c .before .before .before .before .before .before .before .before .before .before .pre .1) _ (le-refl _) (past _ _ _ (c .before .before .before .before .advance .ensures) (c .before .before .a .given .1)))
 
-first-term-returns-3 : (t : ℕ) → first-term-lts.Need-returns-3 (first-term-calls t) (first-term-at t) first-term.Post
-first-term-returns-3 t c = stopped first-term-way _ _ _ _ _ _ _ (c .enum-told2 .given .1) (signed-leads (c .before .before .before .before .before .before .before .before .before .before .before .before .before .before .pre .1 .stands) _ (sign-ahead (c .before .before .before .before .before .before .before .before .before .before .before .before .before .before .pre .1) (c .before .before .before .before .before .before .before .before .before .before .before .fixed-ahead .ensures) (sym (c .before .before .before .before .before .before .before .before .before .before .is-sign .ensures) ∙ flag-on _ (c .before .before .before .before .before .before .before .before .before .if1 .left))) (past _ _ _ (c .before .before .before .before .before .before .before .before .advance .ensures) (c .before .before .before .before .before .before .a .given .1) .follows) .refuses _ _ (barred term-way _ _ _ _ _ _ _ (c .enum-told2 .given .1) (c .before .before .before .term2 .ensures)))
+first-term-followed-requires : (t : ℕ) → first-term-lts.Need-followed-requires (first-term-calls t) (first-term-at t) first-term.Post
+first-term-followed-requires t c κs = fits-read (ready-past (c .before .before .before .before .before .before .before .before .before .before .before .before .before .before .pre .1) _ (le-refl _) (past _ _ _ (c .before .before .before .before .before .before .before .before .advance .ensures) (c .before .before .before .before .before .before .a .given .1))) term-way _ _ _ _ _ (c .before .before .before .term2 .ensures)
 
-first-term-emitted-requires : (t : ℕ) → first-term-lts.Need-emitted-requires (first-term-calls t) (first-term-at t) first-term.Post
-first-term-emitted-requires t c κs = counts-got (ready-past (c .before .before .before .before .before .before .before .before .before .before .before .before .before .before .before .before .before .pre .1) _ (le-refl _) (past _ _ _ (c .before .before .before .before .before .before .before .before .before .before .before .advance .ensures) (c .before .before .before .before .before .before .before .before .before .a .given .1))) (got term-way (c .before .before .before .r .given .1) (c .before .before .before .before .before .before .term2 .ensures)) .0
+first-term-returns-3 : (t : ℕ) → first-term-lts.Need-returns-3 (first-term-calls t) (first-term-at t) first-term.Post
+first-term-returns-3 t c =
+    let o = sign-ahead (c .before .before .before .before .before .before .before .before .before .before .before .before .before .before .before .before .pre .1) (c .before .before .before .before .before .before .before .before .before .before .before .before .before .fixed-ahead .ensures) (sym (c .before .before .before .before .before .before .before .before .before .before .before .before .is-sign .ensures) ∙ flag-on _ (c .before .before .before .before .before .before .before .before .before .before .before .if1 .left)) in
+    let p = past _ _ _ (c .before .before .before .before .before .before .before .before .before .before .advance .ensures) (c .before .before .before .before .before .before .before .before .a .given .1) in
+    rw (c .before .followed .ensures .0, c .before .followed .ensures .1) (followed-read (signed-leads (c .before .before .before .before .before .before .before .before .before .before .before .before .before .before .before .before .pre .1 .stands) _ o (p .follows)) _ (λ x v g l. minus-lays (c .before .before .before .before .before .before .before .before .before .before .before .before .before .before .before .before .pre .1) o p x v g l (sym (c .before .before .before .before .before .before .before .before .before .before .before .before .before .fixed-ahead .ensures) ∙ c .before .before .before .if2 .taken)) _ (c .before .before .before .before .before .term2 .ensures))
 
 first-term-returns-4 : (t : ℕ) → first-term-lts.Need-returns-4 (first-term-calls t) (first-term-at t) first-term.Post
-first-term-returns-4 t c = done first-term-way refl (rw (c .before .emitted .ensures .0, c .before .emitted .ensures .1) (minus-got (c .before .before .before .before .before .before .before .before .before .before .before .before .before .before .before .before .before .before .before .pre .1) (sign-ahead (c .before .before .before .before .before .before .before .before .before .before .before .before .before .before .before .before .before .before .before .pre .1) (c .before .before .before .before .before .before .before .before .before .before .before .before .before .before .before .before .fixed-ahead .ensures) (sym (c .before .before .before .before .before .before .before .before .before .before .before .before .before .before .before .is-sign .ensures) ∙ flag-on _ (c .before .before .before .before .before .before .before .before .before .before .before .before .before .before .if1 .left))) (past _ _ _ (c .before .before .before .before .before .before .before .before .before .before .before .before .before .advance .ensures) (c .before .before .before .before .before .before .before .before .before .before .before .a .given .1)) (got term-way (c .before .before .before .before .before .r .given .1) (c .before .before .before .before .before .before .before .before .term2 .ensures)) (sym (c .before .before .before .before .before .before .before .before .before .before .before .before .before .before .before .before .fixed-ahead .ensures) ∙ c .before .before .before .if2 .taken)))
-
-first-term-returns-5 : (t : ℕ) → first-term-lts.Need-returns-5 (first-term-calls t) (first-term-at t) first-term.Post
-first-term-returns-5 t c = done first-term-way refl (plus-got (c .before .before .before .before .before .before .before .before .before .before .before .before .before .before .before .before .pre .1) (sign-ahead (c .before .before .before .before .before .before .before .before .before .before .before .before .before .before .before .before .pre .1) (c .before .before .before .before .before .before .before .before .before .before .before .before .before .fixed-ahead .ensures) (sym (c .before .before .before .before .before .before .before .before .before .before .before .before .is-sign .ensures) ∙ flag-on _ (c .before .before .before .before .before .before .before .before .before .before .before .if1 .left))) (past _ _ _ (c .before .before .before .before .before .before .before .before .before .before .advance .ensures) (c .before .before .before .before .before .before .before .before .a .given .1)) (got term-way (c .before .before .r .given .1) (c .before .before .before .before .before .term2 .ensures)) (λ z. c .if2 .left (c .before .before .before .before .before .before .before .before .before .before .before .before .before .fixed-ahead .ensures ∙ z)))
+first-term-returns-4 t c =
+    let o = sign-ahead (c .before .before .before .before .before .before .before .before .before .before .before .before .before .pre .1) (c .before .before .before .before .before .before .before .before .before .before .fixed-ahead .ensures) (sym (c .before .before .before .before .before .before .before .before .before .is-sign .ensures) ∙ flag-on _ (c .before .before .before .before .before .before .before .before .if1 .left)) in
+    let p = past _ _ _ (c .before .before .before .before .before .before .before .advance .ensures) (c .before .before .before .before .before .a .given .1) in
+    handed-on (signed-leads (c .before .before .before .before .before .before .before .before .before .before .before .before .before .pre .1 .stands) _ o (p .follows)) (λ x v g l. plus-lays (c .before .before .before .before .before .before .before .before .before .before .before .before .before .pre .1) o p x v g l (λ z. c .if2 .left (c .before .before .before .before .before .before .before .before .before .before .fixed-ahead .ensures ∙ z))) _ (c .before .before .term2 .ensures)
 
 abbrev term-Inv-loop : term-lts.InvT-loop
 term-Inv-loop allow text names table₀ so-far₀ table so-far = Rounds term-so-far text names table₀ allow so-far₀ table so-far
 
 abbrev term-μ-loop : term-lts.MeasureT-loop
-term-μ-loop allow text names table₀ so-far₀ table so-far = length text - read-to so-far
+term-μ-loop allow text names table₀ so-far₀ table so-far = to-go text so-far
 
 term-loop-holds : (t : ℕ) → term-lts.Need-loop-holds (term-calls t) (term-at t) term.Post term-Inv-loop term-μ-loop
 term-loop-holds t c = record { count = refl; on = λ before w s. s }
@@ -412,20 +402,14 @@ term-returns-3 t c = stopped term-way _ _ _ _ _ _ _ (c .enum-told2 .given .1) (r
 term-factor-requires-2 : (t : ℕ) → term-lts.Need-factor-requires-2 (term-calls t) (term-at t) term.Post term-Inv-loop term-μ-loop
 term-factor-requires-2 t c κs = (omega (arith, c .before .before .before .before .before .before .before .before .before .before .before .before .before .before .before .before .before .pre .0), (ready-past (ready-got (c .before .before .before .before .before .before .before .before .before .before .before .before .before .before .before .before .before .pre .1) (term-now t (c .before .before .before .before .before .before .before .before .before))) _ (le-refl _) (past _ _ _ (c .before .before .before .before .advance .ensures) (c .before .before .a .given .1))))
 
-term-returns-4 : (t : ℕ) → term-lts.Need-returns-4 (term-calls t) (term-at t) term.Post term-Inv-loop term-μ-loop
-term-returns-4 t c = stopped term-way _ _ _ _ _ _ _ (c .enum-told3 .given .1) (right-refused term-joins (term-now t (c .before .before .before .before .before .before .before .before .before .before .before .before .before)) (c .before .before .before .before .before .before .before .before .before .before .before .fixed-ahead .ensures) (sym (c .before .before .before .before .before .before .before .before .before .before .is-mul .ensures) ∙ flag-on _ (c .before .before .before .before .before .before .before .before .before .if1 .left)) (past _ _ _ (c .before .before .before .before .before .before .before .before .advance .ensures) (c .before .before .before .before .before .before .a .given .1)) _ _ (barred factor-way _ _ _ _ _ _ _ (c .enum-told3 .given .1) (c .before .before .before .factor2 .ensures)))
-
 term-joined-requires : (t : ℕ) → term-lts.Need-joined-requires (term-calls t) (term-at t) term.Post term-Inv-loop term-μ-loop
-term-joined-requires t c κs = counts-got (ready-past (ready-got (c .before .before .before .before .before .before .before .before .before .before .before .before .before .before .before .before .before .before .before .before .before .before .before .pre .1) (term-now t (c .before .before .before .before .before .before .before .before .before .before .before .before .before .before .before))) _ (le-refl _) (past _ _ _ (c .before .before .before .before .before .before .before .before .before .before .advance .ensures) (c .before .before .before .before .before .before .before .before .a .given .1))) (got factor-way (c .before .before .r .given .1) (c .before .before .before .before .before .factor2 .ensures))
+term-joined-requires t c κs = fits-read (ready-past (ready-got (c .before .before .before .before .before .before .before .before .before .before .before .before .before .before .before .before .before .before .before .before .pre .1) (term-now t (c .before .before .before .before .before .before .before .before .before .before .before .before))) _ (le-refl _) (past _ _ _ (c .before .before .before .before .before .before .before .advance .ensures) (c .before .before .before .before .before .a .given .1))) factor-way _ _ _ _ _ (c .before .before .factor2 .ensures)
 
 term-loop-less : (t : ℕ) → term-lts.Need-loop-less (term-calls t) (term-at t) term.Post term-Inv-loop term-μ-loop
-unfolding one-instruction joined-walk
-term-loop-less t c =
-    let l = right-later term-joins (term-now t (c .before .before .before .before .before .before .before .before .before .before .before .before .before .before .before .before .before)) (c .before .before .before .before .before .before .before .before .before .before .before .before .before .before .before .fixed-ahead .ensures) (sym (c .before .before .before .before .before .before .before .before .before .before .before .before .before .before .is-mul .ensures) ∙ flag-on _ (c .before .before .before .before .before .before .before .before .before .before .before .before .before .if1 .left)) (past _ _ _ (c .before .before .before .before .before .before .before .before .before .before .before .before .advance .ensures) (c .before .before .before .before .before .before .before .before .before .before .a .given .1)) (got factor-way (c .before .before .before .before .r .given .1) (c .before .before .before .before .before .before .before .factor2 .ensures)) in
-    rw (c .before .joined .ensures .0, c .before .before .before .before .before .before .before .before .before .before .before .before .before .before .before .before .before .so-far .given .1) (omega (arith, l .0, l .1 .order, l .1 .within))
+term-loop-less t c = rw (c .before .joined .ensures .0, c .before .before .before .before .before .before .before .before .before .before .before .before .before .before .so-far .given .1) (right-less term-joins (term-now t (c .before .before .before .before .before .before .before .before .before .before .before .before .before .before)) (c .before .before .before .before .before .before .before .before .before .before .before .before .fixed-ahead .ensures) (sym (c .before .before .before .before .before .before .before .before .before .before .before .is-mul .ensures) ∙ flag-on _ (c .before .before .before .before .before .before .before .before .before .before .if1 .left)) (past _ _ _ (c .before .before .before .before .before .before .before .before .before .advance .ensures) (c .before .before .before .before .before .before .before .a .given .1)) _ _ (c .before .before .before .before .factor2 .ensures))
 
 term-loop-again : (t : ℕ) → term-lts.Need-loop-again (term-calls t) (term-at t) term.Post term-Inv-loop term-μ-loop
-term-loop-again t c = rw (c .before .joined .ensures .0, c .before .joined .ensures .1) (round-on term-joins (c .before .before .before .before .before .before .before .before .before .before .before .before .before .before .before .before .before .so-far .given .1) (c .before .before .before .before .before .before .before .before .before .before .before .before .before .before .before .before .before .before .before .loop .inv) (c .before .before .before .before .before .before .before .before .before .before .before .before .before .before .before .fixed-ahead .ensures) (sym (c .before .before .before .before .before .before .before .before .before .before .before .before .before .before .is-mul .ensures) ∙ flag-on _ (c .before .before .before .before .before .before .before .before .before .before .before .before .before .if1 .left)) (past _ _ _ (c .before .before .before .before .before .before .before .before .before .before .before .before .advance .ensures) (c .before .before .before .before .before .before .before .before .before .before .a .given .1)) (got factor-way (c .before .before .before .before .r .given .1) (c .before .before .before .before .before .before .before .factor2 .ensures)) (c .before .before .before .before .before .before .before .factor2 .kept .1 .1 .1 .0))
+term-loop-again t c = rw (c .before .joined .ensures .0, c .before .joined .ensures .1) (round-on term-joins (c .before .before .before .before .before .before .before .before .before .before .before .before .before .before .so-far .given .1) (c .before .before .before .before .before .before .before .before .before .before .before .before .before .before .before .before .loop .inv) (c .before .before .before .before .before .before .before .before .before .before .before .before .fixed-ahead .ensures) (sym (c .before .before .before .before .before .before .before .before .before .before .before .is-mul .ensures) ∙ flag-on _ (c .before .before .before .before .before .before .before .before .before .before .if1 .left)) (past _ _ _ (c .before .before .before .before .before .before .before .before .before .advance .ensures) (c .before .before .before .before .before .before .before .a .given .1)) _ _ (c .before .before .before .before .factor2 .ensures) (c .before .before .before .before .factor2 .kept .1 .1 .1 .0))
 
 pub +bracket+expression+factor+first-term+term-spec : {M : Type 1} → statement M
 +bracket+expression+factor+first-term+term-spec =
@@ -463,10 +447,6 @@ pub +bracket+expression+factor+first-term+term-spec : {M : Type 1} → statement
     (λ c. search needs)
     (expression-returns-3 t)
     (expression-term-requires t)
-    (λ c. search needs)
-    (λ c. search needs)
-    (λ c. search needs)
-    (expression-returns-4 t)
     (expression-joined-requires t)
     (expression-loop-less t)
     (expression-loop-again t))
@@ -507,15 +487,11 @@ pub +bracket+expression+factor+first-term+term-spec : {M : Type 1} → statement
     (λ c. search needs)
     (first-term-returns-2 t)
     (first-term-term-requires-2 t)
-    (λ c. search needs)
-    (λ c. search needs)
+    (first-term-followed-requires t)
     (λ c. search needs)
     (first-term-returns-3 t)
-    (first-term-emitted-requires t)
     (λ c. search needs)
-    (first-term-returns-4 t)
-    (λ c. search needs)
-    (first-term-returns-5 t))
+    (first-term-returns-4 t))
     λ t. term-lts.spec (term-calls t) (term-at t)
     term.Post
     term-Inv-loop
@@ -536,10 +512,6 @@ pub +bracket+expression+factor+first-term+term-spec : {M : Type 1} → statement
     (λ c. search needs)
     (term-returns-3 t)
     (term-factor-requires-2 t)
-    (λ c. search needs)
-    (λ c. search needs)
-    (λ c. search needs)
-    (term-returns-4 t)
     (term-joined-requires t)
     (term-loop-less t)
     (term-loop-again t)

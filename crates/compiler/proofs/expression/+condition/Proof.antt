@@ -8,9 +8,10 @@ use borrow.Author.Needs.{needs}
 use borrow.Fn.Kinds.{In}
 use borrow.Fn.PlainCycle.{Measures, is, falls, and}
 use lib.IntN.{ℤ, pos}
-use Rattle.lexeme.specs.Lexemes.{NOT}
+use Rattle.lexeme.specs.Lexemes.{Name, NOT}
 use Rattle.lexeme.specs.Coded.{code-of, fixed-number}
-use Rattle.sentence.specs.Sentences.{negated}
+use Rattle.sentence.specs.Sentences as S
+use Rattle.sentence.specs.Sentences.{Sen, negated}
 use Rattle.compiler.specs.declared.walk.Walk.{Walk}
 use Rattle.compiler.specs.declared.walk.Gives.{Gives}
 use Rattle.compiler.specs.Steps.{one-instruction, Past}
@@ -19,26 +20,21 @@ use Rattle.compiler.specs.Walks.{Reads, Ready, Lays}
 use Rattle.compiler.proofs.Lays.{lays-negated}
 use Rattle.compiler.proofs.Looked.{going}
 use Rattle.compiler.proofs.Passes.{condition-way, comparison-leads, negated-leads, negated-too-deep, lost-first}
-use Rattle.compiler.proofs.Replies.{Got, got, done, barred, stopped, handed-on, past, unread, ready-past, counts-got}
+use Rattle.compiler.proofs.Replies.{stopped, handed-on, followed-read, past, unread, ready-past, fits-read}
 use Rattle.compiler.proofs.expression.condition.Reads as condition
 use Rattle.compiler.proofs.expression.condition.Kinds as condition-kinds
 use Rattle.compiler.proofs.expression.+condition.Lts-condition as condition-lts
 use Rattle.compiler.proofs.expression.comparison.Reads as comparison-reads
 use Rattle.compiler.proofs.walk.advance.Reads as advance-reads
-use Rattle.compiler.proofs.walk.emitted.Reads as emitted-reads
+use Rattle.compiler.proofs.walk.followed.Reads as followed-reads
 use Rattle.compiler.proofs.walk.fixed_ahead.Reads as fixed-ahead-reads
 use Rattle.compiler.proofs.expression.+condition.{statement}
 use Rattle.compiler.proofs.expression.+condition.Tie.{close}
 
--- NOT was passed, and a condition read
-negated-got : {text names : List ℕ} {table table′ : List ℤ} {w x v : Walk} {allow : ℕ} {g : Gives} → Ready text names w allow → fixed-number (w .next .kind) ≡ code-of NOT → (allow ≡ 0 → ⊥) → Past text w x → Got condition-way text names table x (allow - 1) names table′ v g →
-    Got condition-way text names table w allow names (put table′ (v .code) (pos 15 ∷ pos 0 ∷ [])) (one-instruction v) g
+-- NOT was passed, and a condition written
+negated-lays : {text names : List ℕ} {table table′ : List ℤ} {w x : Walk} {allow : ℕ} → Ready text names w allow → fixed-number (w .next .kind) ≡ code-of NOT → Past text w x → (b : Sen Name S.condition) (v : Walk) (g : Gives) → Lays text names table x b names table′ v g → Lays text names table w (negated b) names (put table′ (v .code) (pos 15 ∷ pos 0 ∷ [])) (one-instruction v) g
 unfolding one-instruction code-of
-negated-got {text} {names} {table} {table′} {w} {x} {v} {allow} {g} ready h n p b = record {
-  what = negated (b .what);
-  passed = negated-leads (ready .stands) allow h n (p .follows) .passes (b .what) (b .passed);
-  laid = lays-negated (x .next) (omega (arith, ready .stands .some (going (w .next) h (λ z. omega arith)), p .follows .later)) (subst (λ (y : Walk). Lays text names table y (b .what) names table′ v g) (p .moved) (b .laid));
-}
+negated-lays {text} {names} {table} {table′} {w} {x} ready h p b v g l = lays-negated (x .next) (omega (arith, ready .stands .some (going (w .next) h (λ z. omega arith)), p .follows .later)) (subst (λ (y : Walk). Lays text names table y b names table′ v g) (p .moved) l)
 
 abbrev μ-condition : Measures 3 condition-kinds.ps ℕ
 μ-condition κs a = a .0
@@ -51,7 +47,7 @@ condition-below t =
     and 3 condition-kinds.ps (falls 3 condition-kinds.ps _<_ μ-condition t) condition.Pre
 
 abbrev condition-calls : ℕ → condition-lts.Claims
-condition-calls t = (fixed-ahead-reads.Asked, fixed-ahead-reads.Learnt, comparison-reads.Asked, comparison-reads.Learnt, advance-reads.Asked, advance-reads.Learnt, condition-below t, condition.Post, emitted-reads.Asked, emitted-reads.Learnt)
+condition-calls t = (fixed-ahead-reads.Asked, fixed-ahead-reads.Learnt, comparison-reads.Asked, comparison-reads.Learnt, advance-reads.Asked, advance-reads.Learnt, condition-below t, condition.Post, followed-reads.Asked, followed-reads.Learnt)
 
 condition-comparison-requires : (t : ℕ) → condition-lts.Need-comparison-requires (condition-calls t) (condition-at t) condition.Post
 condition-comparison-requires t c κs = c .before .before .before .before .before .pre .1
@@ -74,16 +70,15 @@ condition-returns-3 t c = stopped condition-way _ _ _ _ _ _ _ (c .enum-told .giv
 condition-condition-requires : (t : ℕ) → condition-lts.Need-condition-requires (condition-calls t) (condition-at t) condition.Post
 condition-condition-requires t c κs = (omega (arith, c .before .before .before .before .before .before .before .before .before .before .pre .0, c .before .before .before .before .before .if2 .left), ready-past (c .before .before .before .before .before .before .before .before .before .before .pre .1) _ (omega arith) (past _ _ _ (c .before .before .before .before .advance .ensures) (c .before .before .a .given .1)))
 
+condition-followed-requires : (t : ℕ) → condition-lts.Need-followed-requires (condition-calls t) (condition-at t) condition.Post
+condition-followed-requires t c κs = fits-read (ready-past (c .before .before .before .before .before .before .before .before .before .before .before .before .before .pre .1) _ (le-refl _) (past _ _ _ (c .before .before .before .before .before .before .before .advance .ensures) (c .before .before .before .before .before .a .given .1))) condition-way _ _ _ _ _ (c .before .before .condition .ensures)
+
 condition-returns-4 : (t : ℕ) → condition-lts.Need-returns-4 (condition-calls t) (condition-at t) condition.Post
 unfolding code-of
-condition-returns-4 t c = stopped condition-way _ _ _ _ _ _ _ (c .enum-told2 .given .1) (negated-leads (c .before .before .before .before .before .before .before .before .before .before .before .before .before .before .pre .1 .stands) _ (sym (c .before .before .before .before .before .before .before .before .before .before .before .fixed-ahead .ensures) ∙ c .before .before .before .before .before .before .before .before .before .before .if1 .left) (c .before .before .before .before .before .before .before .before .before .if2 .left) ((past _ _ _ (c .before .before .before .before .before .before .before .before .advance .ensures) (c .before .before .before .before .before .before .a .given .1)) .follows) .refuses _ _ (barred condition-way _ _ _ _ _ _ _ (c .enum-told2 .given .1) (c .before .before .before .condition .ensures)))
-
-condition-emitted-requires : (t : ℕ) → condition-lts.Need-emitted-requires (condition-calls t) (condition-at t) condition.Post
-condition-emitted-requires t c κs = counts-got (ready-past (c .before .before .before .before .before .before .before .before .before .before .before .before .before .before .before .before .pre .1) _ (le-refl _) (past _ _ _ (c .before .before .before .before .before .before .before .before .before .before .advance .ensures) (c .before .before .before .before .before .before .before .before .a .given .1))) (got condition-way (c .before .before .r .given .1) (c .before .before .before .before .before .condition .ensures)) .0
-
-condition-returns-5 : (t : ℕ) → condition-lts.Need-returns-5 (condition-calls t) (condition-at t) condition.Post
-unfolding code-of
-condition-returns-5 t c = done condition-way refl (rw (c .before .emitted .ensures .0, c .before .emitted .ensures .1) (negated-got (c .before .before .before .before .before .before .before .before .before .before .before .before .before .before .before .before .before .before .pre .1) (sym (c .before .before .before .before .before .before .before .before .before .before .before .before .before .before .before .fixed-ahead .ensures) ∙ c .before .before .before .before .before .before .before .before .before .before .before .before .before .before .if1 .left) (c .before .before .before .before .before .before .before .before .before .before .before .before .before .if2 .left) (past _ _ _ (c .before .before .before .before .before .before .before .before .before .before .before .before .advance .ensures) (c .before .before .before .before .before .before .before .before .before .before .a .given .1)) (got condition-way (c .before .before .before .before .r .given .1) (c .before .before .before .before .before .before .before .condition .ensures))))
+condition-returns-4 t c =
+    let h = sym (c .before .before .before .before .before .before .before .before .before .before .before .before .fixed-ahead .ensures) ∙ c .before .before .before .before .before .before .before .before .before .before .before .if1 .left in
+    let p = past _ _ _ (c .before .before .before .before .before .before .before .before .before .advance .ensures) (c .before .before .before .before .before .before .before .a .given .1) in
+    rw (c .before .followed .ensures .0, c .before .followed .ensures .1) (followed-read (negated-leads (c .before .before .before .before .before .before .before .before .before .before .before .before .before .before .before .pre .1 .stands) _ h (c .before .before .before .before .before .before .before .before .before .before .if2 .left) (p .follows)) _ (λ x v g l. negated-lays (c .before .before .before .before .before .before .before .before .before .before .before .before .before .before .before .pre .1) h p x v g l) _ (c .before .before .before .before .condition .ensures))
 
 pub +condition-spec : {M : Type 1} → statement M
 +condition-spec = close μ-condition λ t. condition-lts.spec (condition-calls t) (condition-at t)
@@ -99,10 +94,6 @@ pub +condition-spec : {M : Type 1} → statement M
     (condition-returns-3 t)
     (λ c. search needs)
     (condition-condition-requires t)
-    (λ c. search needs)
-    (λ c. search needs)
+    (condition-followed-requires t)
     (λ c. search needs)
     (condition-returns-4 t)
-    (condition-emitted-requires t)
-    (λ c. search needs)
-    (condition-returns-5 t)

@@ -2,11 +2,10 @@
 use mathlib.Core.Path.{sym, ap, _∙_}
 use native.Mathlib.Nat.{le-refl}
 use Rattle.sentence.proofs.Reader.{is-rel}
-use Rattle.compiler.specs.Steps.{joined-walk}
 use Rattle.compiler.specs.Walks.{Reads}
 use Rattle.compiler.proofs.Looked.{flag-off, flag-on}
 use Rattle.compiler.proofs.Passes.{expression-way, comparison-way, comparison-refused, no-relation}
-use Rattle.compiler.proofs.Replies.{got, done, barred, stopped, past, unread, ready-past, ready-got, counts-got, comparison-joins, right-lost, right-refused, right-joined}
+use Rattle.compiler.proofs.Replies.{got, unsaid, barred, stopped, past, unread, ready-past, ready-got, fits-read, comparison-joins, right-lost, right-said}
 use borrow.Author.Needs.{needs}
 use Rattle.compiler.proofs.expression.comparison.Statement.{statement}
 use Rattle.compiler.proofs.expression.comparison.Tie as tie
@@ -27,18 +26,14 @@ returns-3 c = stopped comparison-way _ _ _ _ _ _ _ (c .enum-told2 .given .1) (ri
 expression-requires-2 : tie.Need-expression-requires-2
 expression-requires-2 c κs = (ready-past (ready-got (c .before .before .before .before .before .before .before .before .before .before .before .before .before .before .before .before .pre) (got expression-way (c .before .before .before .before .before .before .before .before .before .left .given .1) (c .before .before .before .before .before .before .before .before .before .before .before .before .expression .ensures))) _ (le-refl _) (past _ _ _ (c .before .before .before .before .advance .ensures) (c .before .before .a .given .1)))
 
-returns-4 : tie.Need-returns-4
-returns-4 c = stopped comparison-way _ _ _ _ _ _ _ (c .enum-told3 .given .1) (right-refused comparison-joins (got expression-way (c .before .before .before .before .before .before .before .before .before .before .before .before .before .left .given .1) (c .before .before .before .before .before .before .before .before .before .before .before .before .before .before .before .before .expression .ensures)) (c .before .before .before .before .before .before .before .before .before .before .before .fixed-ahead .ensures) (sym (c .before .before .before .before .before .before .before .before .before .before .is-rel .ensures) ∙ flag-on _ (c .before .before .before .before .before .before .before .before .before .if1 .left)) (past _ _ _ (c .before .before .before .before .before .before .before .before .advance .ensures) (c .before .before .before .before .before .before .a .given .1)) _ _ (barred expression-way _ _ _ _ _ _ _ (c .enum-told3 .given .1) (c .before .before .before .expression2 .ensures)))
-
 joined-requires : tie.Need-joined-requires
-joined-requires c κs = counts-got (ready-past (ready-got (c .before .before .before .before .before .before .before .before .before .before .before .before .before .before .before .before .before .before .before .before .before .before .pre) (got expression-way (c .before .before .before .before .before .before .before .before .before .before .before .before .before .before .before .left .given .1) (c .before .before .before .before .before .before .before .before .before .before .before .before .before .before .before .before .before .before .expression .ensures))) _ (le-refl _) (past _ _ _ (c .before .before .before .before .before .before .before .before .before .before .advance .ensures) (c .before .before .before .before .before .before .before .before .a .given .1))) (got expression-way (c .before .before .right .given .1) (c .before .before .before .before .before .expression2 .ensures))
+joined-requires c κs = fits-read (ready-past (ready-got (c .before .before .before .before .before .before .before .before .before .before .before .before .before .before .before .before .before .before .before .pre) (got expression-way (c .before .before .before .before .before .before .before .before .before .before .before .before .left .given .1) (c .before .before .before .before .before .before .before .before .before .before .before .before .before .before .before .expression .ensures))) _ (le-refl _) (past _ _ _ (c .before .before .before .before .before .before .before .advance .ensures) (c .before .before .before .before .before .a .given .1))) expression-way _ _ _ _ _ (c .before .before .expression2 .ensures)
 
-same-length-5 : tie.Need-same-length-5
-same-length-5 c = c .before .joined .kept .0 ∙ c .before .before .before .before .before .before .before .expression2 .kept .1 .1 .1 .0 ∙ c .before .before .before .before .before .before .before .before .before .before .before .before .before .before .before .before .before .before .before .before .expression .kept .1 .1 .1 .0
+same-length-4 : tie.Need-same-length-4
+same-length-4 c = c .before .joined .kept .0 ∙ c .before .before .before .before .expression2 .kept .1 .1 .1 .0 ∙ c .before .before .before .before .before .before .before .before .before .before .before .before .before .before .before .before .before .expression .kept .1 .1 .1 .0
 
-returns-5 : tie.Need-returns-5
-unfolding joined-walk
-returns-5 c = done comparison-way (c .before .joined .ensures .0) (rw (c .before .joined .ensures .1) (right-joined comparison-joins (got expression-way (c .before .before .before .before .before .before .before .before .before .before .before .before .before .before .before .before .before .left .given .1) (c .before .before .before .before .before .before .before .before .before .before .before .before .before .before .before .before .before .before .before .before .expression .ensures)) (c .before .before .before .before .before .before .before .before .before .before .before .before .before .before .before .fixed-ahead .ensures) (sym (c .before .before .before .before .before .before .before .before .before .before .before .before .before .before .is-rel .ensures) ∙ flag-on _ (c .before .before .before .before .before .before .before .before .before .before .before .before .before .if1 .left)) (past _ _ _ (c .before .before .before .before .before .before .before .before .before .before .before .before .advance .ensures) (c .before .before .before .before .before .before .before .before .before .before .a .given .1)) (got expression-way (c .before .before .before .before .right .given .1) (c .before .before .before .before .before .before .before .expression2 .ensures))))
+returns-4 : tie.Need-returns-4
+returns-4 c = rw (c .before .joined .ensures .0, c .before .joined .ensures .1) (unsaid comparison-way _ _ _ _ _ _ _ _ (right-said comparison-joins (got expression-way (c .before .before .before .before .before .before .before .before .before .before .before .before .before .before .left .given .1) (c .before .before .before .before .before .before .before .before .before .before .before .before .before .before .before .before .before .expression .ensures)) (c .before .before .before .before .before .before .before .before .before .before .before .before .fixed-ahead .ensures) (sym (c .before .before .before .before .before .before .before .before .before .before .before .is-rel .ensures) ∙ flag-on _ (c .before .before .before .before .before .before .before .before .before .before .if1 .left)) (past _ _ _ (c .before .before .before .before .before .before .before .before .before .advance .ensures) (c .before .before .before .before .before .before .before .a .given .1)) _ _ (c .before .before .before .before .expression2 .ensures)))
 
 pub comparison-spec : {M : Type 1} → statement M
 comparison-spec =
@@ -59,10 +54,6 @@ comparison-spec =
     (λ c. search needs)
     returns-3
     expression-requires-2
-    (λ c. search needs)
-    (λ c. search needs)
-    (λ c. search needs)
-    returns-4
     joined-requires
-    same-length-5
-    returns-5)
+    same-length-4
+    returns-4)

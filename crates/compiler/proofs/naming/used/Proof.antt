@@ -5,6 +5,7 @@ use mir.Syntax.{w32}
 use mir.Val.{SFits}
 use mir.Facts.{toZ-ofZ}
 use borrow.Author.Needs.{needs}
+use Rattle.compiler.specs.Steps.{cell-of}
 use Rattle.compiler.proofs.Names.{noted-is}
 use Rattle.compiler.proofs.naming.used.Statement.{statement}
 use Rattle.compiler.proofs.naming.used.Tie as tie
@@ -13,6 +14,7 @@ emitted-requires : tie.Need-emitted-requires
 emitted-requires c κs = rw (c .before .noted .ensures, noted-is) (omega arith)
 
 returns : tie.Need-returns
+unfolding cell-of
 returns c =
     let f : SFits w32 (c .before .before .operand .result) = search needs in (
       c .before .emitted .ensures .0 ∙ rw (c .before .before .before .noted .ensures, c .before .before .before .before .before .look-up .ensures),

@@ -1,9 +1,9 @@
--- `compiler::walk::operand` meets its contract. Assumes nothing.
+-- `tables::operand` meets its contract. Assumes nothing.
 use borrow.Author.Tests.{lt-ltb, le-ltb}
-use Rattle.compiler.specs.Steps.{operand-of}
+use Rattle.tables.specs.Tables.{operand-of}
 use borrow.Author.Needs.{needs}
-use Rattle.compiler.proofs.walk.operand.Statement.{statement}
-use Rattle.compiler.proofs.walk.operand.Tie as tie
+use Rattle.tables.proofs.operand.Statement.{statement}
+use Rattle.tables.proofs.operand.Tie as tie
 
 returns : tie.Need-returns
 unfolding operand-of
