@@ -1,2 +1,3 @@
+pub mod Rooms
 pub mod Runs
 pub mod Words
