@@ -1,19 +1,21 @@
 -- What the code holds tells results and instructions apart, so that the contracts of `in_range`, `calculate` and `decode` leave one answer each; those of `put_digits` and `put_decimal` too. Assumes nothing.
 use mathlib.Core.Path.{_≡_, refl, sym, ap, _∙_}
+use mathlib.Core.Bool.{true, false}
 use mathlib.Core.List.{List}
 use mathlib.Core.Option.{Option, none, some}
 use Prim.Native.Nat.{ℕ}
 use native.Mathlib.Omega.{arith}
 use lib.Seq.{sets}
 use Rattle.instruction.specs.Buffers.{At-the-end}
-use Rattle.instruction.specs.Numbers.{Result, value, ends, plus, minus, times, divide, equals, smaller, greater}
+use Rattle.instruction.specs.Numbers.{Result, value, ends, Two-sided, plus, minus, times, divide, equals, smaller, greater}
 use Rattle.instruction.specs.Instructions.{Instruction, halt, push-int, load-stack, store-stack, jump, jump-if-false, two-sided, negate, not, read, print-int, print-str, print-str-ln}
-use Rattle.instruction.specs.Coded.{as-result, as-instruction}
+use Rattle.instruction.specs.Coded.{as-result, as-two-sided, as-instruction}
 use Rattle.instruction.specs.declared.arith.Calculated.{Calculated}
 use Rattle.instruction.specs.declared.arith.Calculated.the-variants.{Value, Ends}
+use Rattle.instruction.specs.declared.arith.Operator.{Operator}
+use Rattle.instruction.specs.declared.arith.Operator.the-variants.{Plus, Minus, Times, Divide, Equals, Smaller, Greater}
 use Rattle.instruction.specs.declared.decode.Op.{Op}
-use Rattle.instruction.specs.declared.decode.Op.the-variants.{Bad, Halt, PushInt, LoadStack, StoreStack, Jump, JumpIfFalse, Negate, Not, Read, PrintInt, PrintStr, PrintStrLn}
-use Rattle.instruction.specs.declared.decode.Op.the-variants as Op
+use Rattle.instruction.specs.declared.decode.Op.the-variants.{Bad, Halt, PushInt, LoadStack, StoreStack, Jump, JumpIfFalse, TwoSided, Negate, Not, Read, PrintInt, PrintStr}
 
 -- two things with one image agree where something leads back from it
 same-by : {A B : Type 0} (f : A → B) (back : B → A) → ((a : A) → back (f a) ≡ a) → (a b : A) → f a ≡ f b → a ≡ b
@@ -34,6 +36,24 @@ one-result = same-by as-result result-back result-again
 
 -- ---- instructions
 
+abbrev operator-back : Two-sided → Operator
+operator-back plus = Plus
+operator-back minus = Minus
+operator-back times = Times
+operator-back divide = Divide
+operator-back equals = Equals
+operator-back smaller = Smaller
+operator-back greater = Greater
+
+operator-again : (k : Operator) → operator-back (as-two-sided k) ≡ k
+operator-again Plus = refl
+operator-again Minus = refl
+operator-again Times = refl
+operator-again Divide = refl
+operator-again Equals = refl
+operator-again Smaller = refl
+operator-again Greater = refl
+
 abbrev op-back : Option Instruction → Op
 op-back none = Bad
 op-back (some (halt h)) = Halt h
@@ -42,19 +62,13 @@ op-back (some (load-stack k)) = LoadStack k
 op-back (some (store-stack k)) = StoreStack k
 op-back (some (jump a)) = Jump a
 op-back (some (jump-if-false a)) = JumpIfFalse a
-op-back (some (two-sided plus)) = Op.Plus
-op-back (some (two-sided minus)) = Op.Minus
-op-back (some (two-sided times)) = Op.Times
-op-back (some (two-sided divide)) = Op.Divide
-op-back (some (two-sided equals)) = Op.Equals
-op-back (some (two-sided smaller)) = Op.Smaller
-op-back (some (two-sided greater)) = Op.Greater
+op-back (some (two-sided t)) = TwoSided (operator-back t)
 op-back (some negate) = Negate
 op-back (some not) = Not
 op-back (some read) = Read
 op-back (some print-int) = PrintInt
-op-back (some (print-str q)) = PrintStr q
-op-back (some (print-str-ln q)) = PrintStrLn q
+op-back (some (print-str q)) = PrintStr q false
+op-back (some (print-str-ln q)) = PrintStr q true
 
 op-again : (o : Op) → op-back (as-instruction o) ≡ o
 op-again Bad = refl
@@ -64,19 +78,13 @@ op-again (LoadStack k) = refl
 op-again (StoreStack k) = refl
 op-again (Jump a) = refl
 op-again (JumpIfFalse a) = refl
-op-again Op.Plus = refl
-op-again Op.Minus = refl
-op-again Op.Times = refl
-op-again Op.Divide = refl
-op-again Op.Equals = refl
-op-again Op.Smaller = refl
-op-again Op.Greater = refl
+op-again (TwoSided k) = ap TwoSided (operator-again k)
 op-again Negate = refl
 op-again Not = refl
 op-again Read = refl
 op-again PrintInt = refl
-op-again (PrintStr q) = refl
-op-again (PrintStrLn q) = refl
+op-again (PrintStr q false) = refl
+op-again (PrintStr q true) = refl
 
 pub one-instruction : (o p : Op) → as-instruction o ≡ as-instruction p → o ≡ p
 one-instruction = same-by as-instruction op-back op-again

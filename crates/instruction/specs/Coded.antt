@@ -1,4 +1,5 @@
 -- How the code holds results and instructions: what each of its values means in the definitions.
+use mathlib.Core.Bool.{true, false}
 use mathlib.Core.Option.{Option, none, some}
 use Rattle.instruction.specs.Numbers.{Result, value, ends, Two-sided, plus, minus, times, divide, equals, smaller, greater}
 use Rattle.instruction.specs.Instructions.{Instruction, halt, push-int, load-stack, store-stack, jump, jump-if-false, two-sided, negate, not, read, print-int, print-str, print-str-ln}
@@ -7,8 +8,7 @@ use Rattle.instruction.specs.declared.arith.Calculated.the-variants.{Val
 use Rattle.instruction.specs.declared.arith.Operator.{Operator}
 use Rattle.instruction.specs.declared.arith.Operator.the-variants.{Plus, Minus, Times, Divide, Equals, Smaller, Greater}
 use Rattle.instruction.specs.declared.decode.Op.{Op}
-use Rattle.instruction.specs.declared.decode.Op.the-variants.{Bad, Halt, PushInt, LoadStack, StoreStack, Jump, JumpIfFalse, Negate, Not, Read, PrintInt, PrintStr, PrintStrLn}
-use Rattle.instruction.specs.declared.decode.Op.the-variants as Op
+use Rattle.instruction.specs.declared.decode.Op.the-variants.{Bad, Halt, PushInt, LoadStack, StoreStack, Jump, JumpIfFalse, TwoSided, Negate, Not, Read, PrintInt, PrintStr}
 
 abbrev pub as-result : Calculated → Result
 as-result (Value v) = value v
@@ -31,16 +31,10 @@ as-instruction (LoadStack k) = some (load-stack k)
 as-instruction (StoreStack k) = some (store-stack k)
 as-instruction (Jump a) = some (jump a)
 as-instruction (JumpIfFalse a) = some (jump-if-false a)
-as-instruction Op.Plus = some (two-sided plus)
-as-instruction Op.Minus = some (two-sided minus)
-as-instruction Op.Times = some (two-sided times)
-as-instruction Op.Divide = some (two-sided divide)
-as-instruction Op.Equals = some (two-sided equals)
-as-instruction Op.Smaller = some (two-sided smaller)
-as-instruction Op.Greater = some (two-sided greater)
+as-instruction (TwoSided k) = some (two-sided (as-two-sided k))
 as-instruction Negate = some negate
 as-instruction Not = some not
 as-instruction Read = some read
 as-instruction PrintInt = some print-int
-as-instruction (PrintStr q) = some (print-str q)
-as-instruction (PrintStrLn q) = some (print-str-ln q)
+as-instruction (PrintStr q false) = some (print-str q)
+as-instruction (PrintStr q true) = some (print-str-ln q)

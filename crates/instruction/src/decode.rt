@@ -5,8 +5,10 @@ ghost use mathlib.Core.Option.{none};
 ghost use Rattle.instruction.specs.Numbers.{is-false};
 ghost use Rattle.instruction.specs.Instructions.{halting, decode};
 ghost use Rattle.instruction.specs.Coded.{as-instruction};
+use super::arith::Operator;
 use super::operations;
 
+// An instruction as it is done: one for the operators and relations, and one for the strings, with or without a line feed.
 pub enum Op {
     Bad,
     Halt(u8),
@@ -15,19 +17,12 @@ pub enum Op {
     StoreStack(usize),
     Jump(usize),
     JumpIfFalse(usize),
-    Plus,
-    Minus,
-    Times,
-    Divide,
-    Equals,
-    Smaller,
-    Greater,
+    TwoSided(Operator),
     Negate,
     Not,
     Read,
     PrintInt,
-    PrintStr(usize),
-    PrintStrLn(usize),
+    PrintStr(usize, bool),
 }
 
 // An unused operand is 0.
@@ -73,13 +68,13 @@ pub fn decode(operation: i32, a: i32) -> Op
         } else {
             Op::JumpIfFalse(a as usize)
         },
-        operations::PLUS => alone(Op::Plus, a),
-        operations::MINUS => alone(Op::Minus, a),
-        operations::TIMES => alone(Op::Times, a),
-        operations::DIVIDE => alone(Op::Divide, a),
-        operations::EQUALS => alone(Op::Equals, a),
-        operations::SMALLER => alone(Op::Smaller, a),
-        operations::GREATER => alone(Op::Greater, a),
+        operations::PLUS => alone(Op::TwoSided(Operator::Plus), a),
+        operations::MINUS => alone(Op::TwoSided(Operator::Minus), a),
+        operations::TIMES => alone(Op::TwoSided(Operator::Times), a),
+        operations::DIVIDE => alone(Op::TwoSided(Operator::Divide), a),
+        operations::EQUALS => alone(Op::TwoSided(Operator::Equals), a),
+        operations::SMALLER => alone(Op::TwoSided(Operator::Smaller), a),
+        operations::GREATER => alone(Op::TwoSided(Operator::Greater), a),
         operations::NEGATE => alone(Op::Negate, a),
         operations::NOT => alone(Op::Not, a),
         operations::READ => alone(Op::Read, a),
@@ -87,12 +82,12 @@ pub fn decode(operation: i32, a: i32) -> Op
         operations::PRINT_STR => if a < 0 {
             Op::Bad
         } else {
-            Op::PrintStr(a as usize)
+            Op::PrintStr(a as usize, false)
         },
         operations::PRINT_STR_LN => if a < 0 {
             Op::Bad
         } else {
-            Op::PrintStrLn(a as usize)
+            Op::PrintStr(a as usize, true)
         },
         _ => Op::Bad,
     }

@@ -10,7 +10,7 @@ use Rattle.instruction.specs.Endings.{bad-code}
 use Rattle.machine.specs.Machine.{Lent, Machine, fresh, go, stop, step, Stopped, run, end-of, Report, report, bad-table, whole-run, room-after}
 use Rattle.machine.specs.declared.Report as Code
 use Rattle.machine.specs.declared.state.State.{State}
-use Rattle.machine.specs.Coded.{machine-of, Good}
+use Rattle.machine.specs.Coded.{machine-of, Good, reports}
 use Rattle.machine.specs.Promise.{Reported, Ran}
 
 module _ (lent : Lent) (n : ℕ) (m : Machine) where
@@ -28,9 +28,9 @@ unfolding room-after
 room-is {s = s} {room = room} g = rw (length-take-le (s .printed) room (g .within), ← g .past) (sym (take-append-drop (s .printed) room))
 
 -- where the run ended, so is it reported
-pub reports : {lent : Lent} {before : List ℕ} {s : State} {cells : List ℤ} {room : List ℕ} → Good lent before s cells room → (budget e left steps : ℕ) (w : Stopped) → record { ending = e; left = left; machine = machine-of s cells room } ≡ w → steps ≡ budget - left → Reported (report budget (end-of w)) before (record { ending = e; steps = steps; used = s .used; length = s .printed }) room
+pub reported : {lent : Lent} {before : List ℕ} {s : State} {cells : List ℤ} {room : List ℕ} → Good lent before s cells room → (budget e left steps : ℕ) (w : Stopped) → record { ending = e; left = left; machine = machine-of s cells room } ≡ w → steps ≡ budget - left → Reported (report budget (end-of w)) before (reports e steps s) room
 unfolding report
-reports {s = s} {room = room} g budget e left steps w p q = rw (← p) (record {
+reported {s = s} {room = room} g budget e left steps w p q = rw (← p) (record {
   ending = refl;
   steps = q;
   used = refl;

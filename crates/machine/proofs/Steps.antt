@@ -1,6 +1,6 @@
 -- What the code did, as the definitions have it. Assumes nothing.
 use mathlib.Core.Path.{_≡_, refl, _∙_}
-use mathlib.Core.List.{List, [], _∷_, _++_, append-nil}
+use mathlib.Core.List.{List, [], _∷_}
 use mathlib.Core.Bool.{Bool, true, false, cond}
 use mathlib.Core.Option.{none, some}
 use Prim.Native.Nat.{ℕ, zero, suc, _+_, _-_, _*_, _/_, _%_, _≤_, _<_}
@@ -11,33 +11,54 @@ use lib.IntN.{ℤ, pos}
 use lib.ListN.{length, getD, set, length-set, getElem?}
 use borrow.Author.Tests.{lt-ltb, le-ltb}
 use Rattle.instruction.specs.Endings.{stack-full, bad-code}
-use Rattle.instruction.specs.Numbers.{value}
-use Rattle.instruction.specs.Instructions.{Instruction, halt, push-int, load-stack, print-str, print-str-ln, takes, gives}
-use Rattle.machine.specs.Machine.{Lent, Machine, string, closed, go, stop, pushed, jumped, resulting, names-well, prints, does, tried}
+use Rattle.base.specs.Rooms.{said}
+use Rattle.instruction.specs.Coded.{as-result, as-instruction}
+use Rattle.instruction.specs.declared.decode.Op.the-variants.{PrintStr}
+use Rattle.instruction.specs.declared.arith.Calculated.{Calculated}
+use Rattle.instruction.specs.declared.arith.Calculated.the-variants.{Value, Ends}
+use Rattle.instruction.specs.Instructions.{Instruction, halt, push-int, load-stack, takes, gives}
+use Rattle.machine.specs.Machine.{Lent, Machine, string, closed, go, stop, pushed, jumped, resulting, names-well, prints, does, tried, decoded}
 use Rattle.machine.specs.declared.state.State.{State}
 use Rattle.machine.specs.declared.state.Move.{Move}
-use Rattle.machine.specs.declared.state.Move.the-variants.{Go, Stop}
-use Rattle.machine.specs.Coded.{live, machine-of, moves-to, Rule, Good, Did}
+use Rattle.machine.specs.declared.state.Move.the-variants.{Go, Set, Stop}
+use Rattle.machine.specs.Coded.{live, outside, machine-of, moves-to, pushes, puts, Rule, Good, Did}
 use Rattle.machine.proofs.Tried as T
 use Rattle.machine.proofs.Cells.{length-live, live-push, live-drop, peek-live}
 
 module _ {lent : Lent} {before : List ℕ} {s : State} {cells : List ℤ} {room : List ℕ} (g : Good lent before s cells room) where
   -- it stopped, and left the room as it was
-  pub stops : (rule : Rule) (e : ℕ) {cells′ : List ℤ} → stop e ≡ rule (machine-of s cells room) → Did lent before rule s cells room (Stop e) cells′ room
+  pub stops : (rule : Rule) (e : ℕ) → stop e ≡ rule (machine-of s cells room) → Did lent before rule s cells room (Stop e) room
   stops rule e p = record { seen = p; left = refl }
 
   -- it went on, and printed nothing
-  pub goes : (rule : Rule) (index d : ℕ) (cells′ : List ℤ) → index % 2 ≡ 0 → d ≤ length cells → length cells′ ≡ length cells → go (machine-of (moves-to s index d) cells′ room) ≡ rule (machine-of s cells room) → Did lent before rule s cells room (Go (moves-to s index d)) cells′ room
-  goes rule index d cells′ w h e p = record {
+  pub goes : (rule : Rule) (index d : ℕ) → index % 2 ≡ 0 → d ≤ length cells → go (machine-of (moves-to s index d) cells room) ≡ rule (machine-of s cells room) → Did lent before rule s cells room (Go (moves-to s index d)) room
+  goes rule index d w h p = record {
     seen = p;
-    left = record { deep = omega arith; stack = e ∙ g .stack; within = g .within; size = g .size; past = g .past; whole = w };
+    left = record { deep = h; stack = g .stack; within = g .within; size = g .size; past = g .past; whole = w };
   }
 
-  pub puts : (d : ℕ) (v : ℤ) → d < length cells → Did lent before (λ (m : Machine). resulting (value v) (record { place = m .place; stack = live d cells; outside = m .outside })) s cells room (Go (moves-to s (s .index) (d + 1))) (set cells d v) room
+  -- and it sets a cell
+  pub sets : (rule : Rule) (d k : ℕ) (v : ℤ) → d ≤ length cells → k < length cells → go (machine-of (moves-to s (s .index) d) (set cells k v) room) ≡ rule (machine-of s cells room) → Did lent before rule s cells room (Set (moves-to s (s .index) d) k v) room
+  sets rule d k v h l p =
+      let e = length-set cells k v in
+      record {
+        seen = p;
+        left = (l, record { deep = omega arith; stack = e ∙ g .stack; within = g .within; size = g .size; past = g .past; whole = g .whole });
+      }
+
+  pub does-push : (rule : Rule) (d : ℕ) (v : ℤ) → d < length cells → go (record { place = s .index / 2; stack = v ∷ live d cells; outside = outside s room }) ≡ rule (machine-of s cells room) → Did lent before rule s cells room (pushes s d v) room
+  does-push rule d v h p =
+      let e = length-set cells d v in
+      let top : d + 1 - 1 ≡ d = omega arith in
+      record {
+        seen = rw (top, add-one d, live-push d cells v h) p;
+        left = rw top (omega arith, record { deep = omega arith; stack = e ∙ g .stack; within = g .within; size = g .size; past = g .past; whole = g .whole });
+      }
+
+  pub does-put : (rule : Rule) (d : ℕ) (n : Calculated) → d < length cells → resulting (as-result n) (record { place = s .index / 2; stack = live d cells; outside = outside s room }) ≡ rule (machine-of s cells room) → Did lent before rule s cells room (puts s d n) room
   unfolding resulting pushed
-  puts d v h =
-      goes (λ (m : Machine). resulting (value v) (record { place = m .place; stack = live d cells; outside = m .outside })) (s .index) (d + 1) (set cells d v) (g .whole) (omega arith) (length-set cells d v)
-      (rw (add-one d, live-push d cells v h))
+  does-put rule d (Value v) h p = does-push rule d v h p
+  does-put rule d (Ends e) h p = stops rule e p
 
   -- ---- an instruction's tests, by the depth
 
@@ -74,14 +95,10 @@ module _ {lent : Lent} {before : List ℕ} {s : State} {cells : List ℤ} {room 
   loads k h = rw (length-live (s .depth) cells, sub-zero (s .depth), lt-ltb k (s .depth) h, peek-live (s .depth) k cells h)
 
 -- a string that is closed is printed
-module _ (lent : Lent) (q : ℕ) (m : Machine) where
-  pub says : cond (closed (lent .text) q) (prints lent (string (lent .text) q ++ []) m) (stop bad-code) ≡ tried lent (print-str q) m
-  unfolding tried takes gives names-well does
-  says = rw (append-nil (string (lent .text) q), le-ltb (length (m .stack)) 0 (omega arith), le-ltb (lent .cells - length (m .stack)) 0 (omega arith))
-
-  pub says-line : cond (closed (lent .text) q) (prints lent (string (lent .text) q ++ 10 ∷ []) m) (stop bad-code) ≡ tried lent (print-str-ln q) m
-  unfolding tried takes gives names-well does
-  says-line = rw (le-ltb (length (m .stack)) 0 (omega arith), le-ltb (lent .cells - length (m .stack)) 0 (omega arith))
+pub says : (lent : Lent) (q : ℕ) (line : Bool) (m : Machine) → cond (closed (lent .text) q) (prints lent (said line (string (lent .text) q)) m) (stop bad-code) ≡ decoded lent (as-instruction (PrintStr q line)) m
+unfolding said decoded tried takes gives names-well does
+says lent q true m = rw (le-ltb (length (m .stack)) 0 (omega arith), le-ltb (lent .cells - length (m .stack)) 0 (omega arith))
+says lent q false m = rw (le-ltb (length (m .stack)) 0 (omega arith), le-ltb (lent .cells - length (m .stack)) 0 (omega arith))
 
 -- a jump goes to the pair that it names
 pub jumps-to : (s : State) (a d : ℕ) (cells : List ℤ) (room : List ℕ) → go (machine-of (moves-to s (a * 2) d) cells room) ≡ jumped a (machine-of (moves-to s (s .index) d) cells room)
@@ -89,7 +106,7 @@ unfolding jumped
 jumps-to s a d cells room = let e : a * 2 / 2 ≡ a = omega arith in rw e
 
 -- what one rule says at one state is what another says at another
-pub also : {lent : Lent} {before : List ℕ} {rule rule′ : Rule} {s s′ : State} {cells cells₀ cells′ : List ℤ} {room room′ : List ℕ} {r : Move} → Did lent before rule s cells room r cells′ room′ → rule (machine-of s cells room) ≡ rule′ (machine-of s′ cells₀ room) → Did lent before rule′ s′ cells₀ room r cells′ room′
+pub also : {lent : Lent} {before : List ℕ} {rule rule′ : Rule} {s s′ : State} {cells : List ℤ} {room room′ : List ℕ} {r : Move} → Did lent before rule s cells room r room′ → rule (machine-of s cells room) ≡ rule′ (machine-of s′ cells room) → Did lent before rule′ s′ cells room r room′
 also d e = record { seen = d .seen ∙ e; left = d .left }
 
 -- a reading

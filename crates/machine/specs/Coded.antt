@@ -1,13 +1,16 @@
 -- How the code holds what the definitions speak of: what each of its values means there.
 use mathlib.Core.Path.{_≡_}
 use mathlib.Core.List.{List, [], _∷_}
-use Prim.Native.Nat.{ℕ, zero, suc, _/_, _%_, _≤_}
+use Prim.Native.Nat.{ℕ, zero, suc, _+_, _-_, _/_, _%_, _≤_, _<_}
 use lib.IntN.{ℤ, pos}
-use lib.ListN.{length, getD, take, drop}
+use lib.ListN.{length, getD, take, drop, set}
 use Rattle.machine.specs.Machine.{Lent, Outside, Machine, Step, go, stop}
+use Rattle.instruction.specs.declared.arith.Calculated.{Calculated}
+use Rattle.instruction.specs.declared.arith.Calculated.the-variants.{Value, Ends}
+use Rattle.machine.specs.declared.Report.{Report}
 use Rattle.machine.specs.declared.state.State.{State}
 use Rattle.machine.specs.declared.state.Move.{Move}
-use Rattle.machine.specs.declared.state.Move.the-variants.{Go, Stop}
+use Rattle.machine.specs.declared.state.Move.the-variants.{Go, Put, Set, Stop}
 
 -- ---- the stack: a slice, and a depth below which its cells are live
 
@@ -40,32 +43,49 @@ pub record Good (lent : Lent) (before : List ℕ) (s : State) (cells : List ℤ)
 abbrev pub moves-to : State → ℕ → ℕ → State
 moves-to s index depth = record { index = index; depth = depth; used = s .used; printed = s .printed }
 
+-- a number on the d lowest cells, or what a calculation gives
+abbrev pub pushes : State → ℕ → ℤ → Move
+pushes s d v = Put (moves-to s (s .index) (d + 1)) v
+
+abbrev pub puts : State → ℕ → Calculated → Move
+puts s d (Value v) = pushes s d v
+puts s d (Ends e) = Stop e
+
 abbrev pub as-step : Move → List ℤ → List ℕ → Step
 as-step (Go t) cells room = go (machine-of t cells room)
+as-step (Put t v) cells room = go (machine-of t (set cells (t .depth - 1) v) room)
+as-step (Set t k v) cells room = go (machine-of t (set cells k v) room)
 as-step (Stop e) cells room = stop e
 
--- a step goes on from a good state, or it stops and leaves the room as it was
-abbrev pub Left : Lent → List ℕ → List ℕ → Move → List ℤ → List ℕ → Type 0
-Left lent before room (Go t) cells′ room′ = Good lent before t cells′ room′
-Left lent before room (Stop e) cells′ room′ = room′ ≡ room
+-- a step goes on from a good state, once a cell that it names is set, or it stops and leaves the room as it was
+abbrev pub Left : Lent → List ℕ → List ℤ → List ℕ → Move → List ℕ → Type 0
+Left lent before cells room (Go t) room′ = Good lent before t cells room′
+Left lent before cells room (Put t v) room′ = (1 ≤ t .depth) × Good lent before t (set cells (t .depth - 1) v) room′
+Left lent before cells room (Set t k v) room′ = (k < length cells) × Good lent before t (set cells k v) room′
+Left lent before cells room (Stop e) room′ = room′ ≡ room
 
 -- what is done at a machine
 abbrev pub Rule : Type 0
 Rule = Machine → Step
 
--- the answer r, with the stack and the room as they are after it, is what the rule says
-pub record Did (lent : Lent) (before : List ℕ) (rule : Rule) (s : State) (cells : List ℤ) (room : List ℕ) (r : Move) (cells′ : List ℤ) (room′ : List ℕ) : Type 0 where
-  pub seen : as-step r cells′ room′ ≡ rule (machine-of s cells room)
-  pub left : Left lent before room r cells′ room′
+-- the answer r, with the room as it is after it, is what the rule says
+pub record Did (lent : Lent) (before : List ℕ) (rule : Rule) (s : State) (cells : List ℤ) (room : List ℕ) (r : Move) (room′ : List ℕ) : Type 0 where
+  pub seen : as-step r cells room′ ≡ rule (machine-of s cells room)
+  pub left : Left lent before cells room r room′
 
 -- from a good state, in a room that was `before` when the run began, r is what the rule says
-abbrev pub Stepped : Lent → Rule → State → List ℤ → List ℕ → Move → List ℤ → List ℕ → Type 0
-Stepped lent rule s cells room r cells′ room′ = (before : List ℕ) → Good lent before s cells room → Did lent before rule s cells room r cells′ room′
+abbrev pub Stepped : Lent → Rule → State → List ℤ → List ℕ → Move → List ℕ → Type 0
+Stepped lent rule s cells room r room′ = (before : List ℕ) → Good lent before s cells room → Did lent before rule s cells room r room′
 
 -- whatever the room: the rule does not print
-abbrev pub Does : Lent → Rule → State → List ℤ → Move → List ℤ → Type 0
-Does lent rule s cells r cells′ = (room : List ℕ) → Stepped lent rule s cells room r cells′ room
+abbrev pub Does : Lent → Rule → State → List ℤ → Move → Type 0
+Does lent rule s cells r = (room : List ℕ) → Stepped lent rule s cells room r room
 
 -- whatever the stack: the rule only prints
 abbrev pub Prints : Lent → Rule → State → List ℕ → Move → List ℕ → Type 0
-Prints lent rule s room r room′ = (cells : List ℤ) → Stepped lent rule s cells room r cells room′
+Prints lent rule s room r room′ = (cells : List ℤ) → Stepped lent rule s cells room r room′
+
+-- ---- a report, of the state where a run ended
+
+abbrev pub reports : ℕ → ℕ → State → Report
+reports ending steps s = record { ending = ending; steps = steps; used = s .used; length = s .printed }

@@ -1,9 +1,7 @@
 // The machine: any code table, one numbered ending.
 ghost use mathlib.Core.Path.{_≡_};
-ghost use lib.ListN.{length};
-ghost use Prim.Native.Nat.{_%_};
 ghost use Rattle.machine.specs.Machine.{whole-run};
-ghost use Rattle.machine.specs.Machine as M;
+ghost use Rattle.machine.specs.Coded.{reports};
 ghost use Rattle.machine.specs.Promise.{lends, Reported, Ran};
 use instruction::endings;
 use state::Move;
@@ -21,6 +19,17 @@ pub struct Report {
     pub length: usize,
 }
 
+fn ended(ending: u8, steps: u32, s: State) -> Report
+    ensures { λ r. ⌜ r ≡ reports ending steps s ⌝ }
+{
+    Report {
+        ending,
+        steps,
+        used: s.used,
+        length: s.printed,
+    }
+}
+
 // The run proper, which leaves the stack as its last step did.
 fn follow(
     text: &[u8],
@@ -30,8 +39,7 @@ fn follow(
     stack: &mut [i32],
     out: &mut [u8],
 ) -> Report
-    requires { ⌜ length (now table) % 2 ≡ 0 ⌝ }
-    ensures { λ r. ⌜ Reported (M.report budget (M.end-of (M.run (lends (now (text .entry)) (now (table .entry)) (now (readings .entry)) (now (stack .entry)) (now (out .entry))) budget M.fresh))) (now (out .entry)) r (now (out .exit)) ⌝ }
+    ensures { λ r. ⌜ Reported (whole-run (lends (now (text .entry)) (now (table .entry)) (now (readings .entry)) (now (stack .entry)) (now (out .entry))) budget) (now (out .entry)) r (now (out .exit)) ⌝ }
 {
     let mut s = State {
         index: 0,
@@ -40,29 +48,29 @@ fn follow(
         printed: 0,
     };
     let mut steps: u32 = 0;
+    if table.len() % 2 != 0 {
+        return ended(endings::BAD_CODE, steps, s);
+    }
     while steps < budget {
         steps += 1;
-        let m = step::step(s, text, table, readings, stack, out);
-        match m {
+        match step::step(s, text, table, readings, stack, out) {
             Move::Go(t) => {
                 s = t;
             }
+            Move::Put(t, v) => {
+                stack[t.depth - 1] = v;
+                s = t;
+            }
+            Move::Set(t, k, v) => {
+                stack[k] = v;
+                s = t;
+            }
             Move::Stop(e) => {
-                return Report {
-                    ending: e,
-                    steps,
-                    used: s.used,
-                    length: s.printed,
-                };
+                return ended(e, steps, s);
             }
         }
     }
-    Report {
-        ending: endings::BUDGET_SPENT,
-        steps,
-        used: s.used,
-        length: s.printed,
-    }
+    ended(endings::BUDGET_SPENT, steps, s)
 }
 
 // A whole run of the table over the text and the readings, within the budget.
@@ -76,15 +84,6 @@ pub fn run(
 ) -> Report
     ensures { λ r. ⌜ Ran (whole-run (lends (now (text .entry)) (now (table .entry)) (now (readings .entry)) (now (stack .entry)) (now (out .entry))) budget) (now (stack .entry)) (now (out .entry)) r (now (stack .exit)) (now (out .exit)) ⌝ }
 {
-    if table.len() % 2 != 0 {
-        base::clear(stack);
-        return Report {
-            ending: endings::BAD_CODE,
-            steps: 0,
-            used: 0,
-            length: 0,
-        };
-    }
     let r = follow(text, table, readings, budget, stack, out);
     base::clear(stack);
     r

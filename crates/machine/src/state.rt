@@ -9,8 +9,12 @@ pub struct State {
     pub printed: usize,
 }
 
+// What an instruction leads to: a state; a state once its top cell, or a cell that is named, holds a number; or an ending.
+// A push has a variant of its own: the compiled code then has no cell to hold beside the depth.
 pub enum Move {
     Go(State),
+    Put(State, i32),
+    Set(State, usize, i32),
     Stop(u8),
 }
 

@@ -1,29 +1,59 @@
 // One instruction, from fetching it to the state after it.
 ghost use mathlib.Core.Path.{_≡_};
 ghost use lib.ListN.{length};
-ghost use Prim.Native.Nat.{_%_, _≤_};
+ghost use Prim.Native.Nat.{_*_, _^_, _%_, _≤_, _<_};
 ghost use Rattle.machine.specs.Machine as M;
 ghost use Rattle.machine.specs.Promise.{lends};
 ghost use Rattle.machine.specs.Coded.{Stepped};
+ghost use Rattle.instruction.specs.Coded.{as-instruction};
 use super::print;
 use super::stack;
 use super::state::Move;
 use super::state::State;
-use instruction::arith::Operator;
 use instruction::decode::Op;
 use instruction::decode::decode;
 use instruction::endings;
+
+// What was decoded, at the state past it.
+fn perform(
+    s: State,
+    o: Op,
+    count: usize,
+    text: &[u8],
+    readings: &[i32],
+    cells: &[i32],
+    out: &mut [u8],
+) -> Move
+    requires { ⌜ (s .depth ≤ length (now cells)) × (count * 2 < 2 ^ 64) ⌝ }
+    ensures { λ r. ⌜ ((lent : M.Lent) → now (text .entry) ≡ lent .text → now (readings .entry) ≡ lent .readings → count ≡ M.pairs lent → Stepped lent (M.decoded lent (as-instruction o)) s (now (cells .entry)) (now (out .entry)) r (now (out .exit))) ⌝ }
+{
+    match o {
+        Op::Bad => Move::Stop(endings::BAD_CODE),
+        Op::Halt(h) => Move::Stop(h),
+        Op::PushInt(v) => stack::push_int(s, cells, v),
+        Op::LoadStack(k) => stack::load_stack(s, cells, k),
+        Op::StoreStack(k) => stack::store_stack(s, cells, k),
+        Op::Jump(a) => stack::jump(s, count, a),
+        Op::JumpIfFalse(a) => stack::jump_if_false(s, cells, count, a),
+        Op::TwoSided(k) => stack::operate(s, cells, k),
+        Op::Negate => stack::negate(s, cells),
+        Op::Not => stack::not(s, cells),
+        Op::Read => stack::read(s, readings, cells),
+        Op::PrintInt => print::print_int(s, cells, out),
+        Op::PrintStr(q, line) => print::print_str(s, text, q, line, out),
+    }
+}
 
 pub fn step(
     t: State,
     text: &[u8],
     table: &[i32],
     readings: &[i32],
-    cells: &mut [i32],
+    cells: &[i32],
     out: &mut [u8],
 ) -> Move
-    requires { ⌜ ((t .depth ≤ length (now cells)) × (t .printed ≤ length (now out))) × ((t .index % 2 ≡ 0) × (length (now table) % 2 ≡ 0)) ⌝ }
-    ensures { λ r. ⌜ Stepped (lends (now (text .entry)) (now (table .entry)) (now (readings .entry)) (now (cells .entry)) (now (out .entry))) (M.step (lends (now (text .entry)) (now (table .entry)) (now (readings .entry)) (now (cells .entry)) (now (out .entry)))) t (now (cells .entry)) (now (out .entry)) r (now (cells .exit)) (now (out .exit)) ⌝ }
+    requires { ⌜ (t .depth ≤ length (now cells)) × ((t .index % 2 ≡ 0) × (length (now table) % 2 ≡ 0)) ⌝ }
+    ensures { λ r. ⌜ Stepped (lends (now (text .entry)) (now (table .entry)) (now (readings .entry)) (now (cells .entry)) (now (out .entry))) (M.step (lends (now (text .entry)) (now (table .entry)) (now (readings .entry)) (now (cells .entry)) (now (out .entry)))) t (now (cells .entry)) (now (out .entry)) r (now (out .exit)) ⌝ }
 {
     let i = t.index;
     if table.len() <= i {
@@ -36,27 +66,5 @@ pub fn step(
         used: t.used,
         printed: t.printed,
     };
-    let count = table.len() / 2;
-    match o {
-        Op::Bad => Move::Stop(endings::BAD_CODE),
-        Op::Halt(h) => Move::Stop(h),
-        Op::PushInt(v) => stack::push_int(s, cells, v),
-        Op::LoadStack(k) => stack::load_stack(s, cells, k),
-        Op::StoreStack(k) => stack::store_stack(s, cells, k),
-        Op::Jump(a) => stack::jump(s, count, a),
-        Op::JumpIfFalse(a) => stack::jump_if_false(s, cells, count, a),
-        Op::Plus => stack::two_sided(s, cells, Operator::Plus),
-        Op::Minus => stack::two_sided(s, cells, Operator::Minus),
-        Op::Times => stack::two_sided(s, cells, Operator::Times),
-        Op::Divide => stack::two_sided(s, cells, Operator::Divide),
-        Op::Equals => stack::two_sided(s, cells, Operator::Equals),
-        Op::Smaller => stack::two_sided(s, cells, Operator::Smaller),
-        Op::Greater => stack::two_sided(s, cells, Operator::Greater),
-        Op::Negate => stack::negate(s, cells),
-        Op::Not => stack::not(s, cells),
-        Op::Read => stack::read(s, readings, cells),
-        Op::PrintInt => print::print_int(s, cells, out),
-        Op::PrintStr(q) => print::print_str(s, text, q, b"", out),
-        Op::PrintStrLn(q) => print::print_str(s, text, q, b"\n", out),
-    }
+    perform(s, o, table.len() / 2, text, readings, cells, out)
 }

@@ -6,10 +6,14 @@ use native.Mathlib.Nat.{sub-zero}
 use native.Mathlib.Omega.{arith}
 use borrow.Author.Needs.{needs}
 use denote.Ref.{now}
+use lib.ListN.{length-set}
+use mir.Syntax.{w32}
+use mir.Val.{SFits}
+use mir.Facts.{toZ-ofZ}
 use Rattle.machine.specs.Machine as M
 use Rattle.machine.specs.Coded.{live, machine-of, Good, Did}
 use Rattle.machine.specs.Promise.{lends}
-use Rattle.machine.proofs.Runs.{run-goes, run-stops, reports}
+use Rattle.machine.proofs.Runs.{run-goes, run-stops, reported, odd-table, even-table}
 use Rattle.machine.proofs.follow.Statement.{statement}
 use Rattle.machine.proofs.follow.Tie as tie
 
@@ -25,53 +29,92 @@ abbrev μ-loop : tie.MeasureT-loop
 abbrev lent : (c : tie.Start Inv-loop μ-loop) → M.Lent
 lent c = lends (now (c .args .text)) (now (c .args .table)) (now (c .args .readings)) (now (c .args .stack)) (now (c .args .out))
 
+-- the step, of the run that is lent what this run was lent
+did : (c : tie.After-step Inv-loop μ-loop) → Did (lent (c .before .before .before .before .before .before .before .before)) (now (c .before .before .before .before .before .before .before .before .args .out)) (M.step (lent (c .before .before .before .before .before .before .before .before))) (c .before .before .before .before .loop .s) (c .before .before .before .before .loop .stack) (c .before .before .before .before .loop .out) (c .step .result) (c .step .last .1 .1 .1 .1 .1 .0)
+did c =
+    let g = c .before .before .before .before .loop .inv .0 in
+    let e : lends (now (c .before .before .before .before .before .before .before .before .args .text)) (now (c .before .before .before .before .before .before .before .before .args .table)) (now (c .before .before .before .before .before .before .before .before .args .readings)) (c .before .before .before .before .loop .stack) (c .before .before .before .before .loop .out) ≡ lent (c .before .before .before .before .before .before .before .before) = rw (g .stack, g .size) in
+    rw e at (c .step .ensures (now (c .before .before .before .before .before .before .before .before .args .out)) (rw e g))
+
+-- the budget that was left before the step
+left : (c : tie.After-step Inv-loop μ-loop) → c .before .before .before .before .before .before .before .before .args .budget - c .before .before .before .before .loop .steps ≡ suc (c .before .before .before .before .before .before .before .before .args .budget - (c .before .before .before .before .loop .steps + 1))
+left c = omega arith
+
+-- the run from where it went on
+again : (c : tie.After-step Inv-loop μ-loop) {m : M.Machine} → M.go m ≡ M.step (lent (c .before .before .before .before .before .before .before .before)) (machine-of (c .before .before .before .before .loop .s) (c .before .before .before .before .loop .stack) (c .before .before .before .before .loop .out)) → M.run (lent (c .before .before .before .before .before .before .before .before)) (c .before .before .before .before .before .before .before .before .args .budget - (c .before .before .before .before .loop .steps + 1)) m ≡ M.run (lent (c .before .before .before .before .before .before .before .before)) (c .before .before .before .before .before .before .before .before .args .budget) M.fresh
+again c e = sym (run-goes (lent (c .before .before .before .before .before .before .before .before)) (c .before .before .before .before .before .before .before .before .args .budget - (c .before .before .before .before .loop .steps + 1)) _ e) ∙ (rw (← left c) (c .before .before .before .before .loop .inv .1 .1))
+
+returns : tie.Need-returns Inv-loop μ-loop
+returns c = rw (c .ended .ensures) (odd-table (lent (c .before .before .before .before)) (c .before .before .before .before .args .budget) (now (c .before .before .before .before .args .out)) (c .before .if1 .taken))
+
 loop-holds : tie.Need-loop-holds Inv-loop μ-loop
 unfolding live
-loop-holds c = (record { deep = omega arith; stack = refl; within = omega arith; size = refl; past = refl; whole = refl }, (omega arith, rw (sub-zero (c .before .before .args .budget))))
+loop-holds c = (record { deep = omega arith; stack = refl; within = omega arith; size = refl; past = refl; whole = refl }, (omega arith, rw (sub-zero (c .before .before .before .args .budget))))
 
 add-steps : tie.Need-add-steps Inv-loop μ-loop
 add-steps c = omega arith
 
 step-requires : tie.Need-step-requires Inv-loop μ-loop
-step-requires c κs = ((c .before .before .before .loop .inv .0 .deep, c .before .before .before .loop .inv .0 .within), (c .before .before .before .loop .inv .0 .whole, c .before .before .before .before .before .before .pre))
-
--- the step, of the run that is lent what this run was lent
-did : (c : tie.After-step Inv-loop μ-loop) → Did (lent (c .before .before .before .before .before .before .before)) (now (c .before .before .before .before .before .before .before .args .out)) (M.step (lent (c .before .before .before .before .before .before .before))) (c .before .before .before .before .loop .s) (c .before .before .before .before .loop .stack) (c .before .before .before .before .loop .out) (c .step .result) (c .step .last .1 .1 .1 .1 .0) (c .step .last .1 .1 .1 .1 .1 .0)
-did c =
-    let g = c .before .before .before .before .loop .inv .0 in
-    let a = c .before .before .before .before .before .before .before .args in
-    let e : lends (now (c .before .before .before .before .before .before .before .args .text)) (now (c .before .before .before .before .before .before .before .args .table)) (now (c .before .before .before .before .before .before .before .args .readings)) (c .before .before .before .before .loop .stack) (c .before .before .before .before .loop .out) ≡ lent (c .before .before .before .before .before .before .before) = rw (g .stack, g .size) in
-    rw e at (c .step .ensures (now (a .out)) (rw e g))
+step-requires c κs = (c .before .before .before .loop .inv .0 .deep, (c .before .before .before .loop .inv .0 .whole, c .before .before .before .before .if1 .left))
 
 loop-less : tie.Need-loop-less Inv-loop μ-loop
 loop-less c = omega arith
 
 loop-again : tie.Need-loop-again Inv-loop μ-loop
-loop-again c = let d = rw (c .before .m .given .1) at (did (c .before .before .before .before .before .before)) in
-    let k : c .before .before .before .before .before .before .before .before .before .before .before .before .before .args .budget - c .before .before .before .before .before .before .before .before .before .before .loop .steps ≡ suc (c .before .before .before .before .before .before .before .before .before .before .before .before .before .args .budget - (c .before .before .before .before .before .before .before .before .before .before .loop .steps + 1)) = omega arith in
-    (d .left, (omega arith, sym (run-goes (lent (c .before .before .before .before .before .before .before .before .before .before .before .before .before)) (c .before .before .before .before .before .before .before .before .before .before .before .before .before .args .budget - (c .before .before .before .before .before .before .before .before .before .before .loop .steps + 1)) _ (d .seen)) ∙ (rw (← k) (c .before .before .before .before .before .before .before .before .before .before .loop .inv .1 .1))))
+loop-again c = let d = rw (c .before .t .given .1) at (did (c .before .before .before .before .before)) in (d .left, (omega arith, again (c .before .before .before .before .before) (d .seen)))
+
+sub-v : tie.Need-sub-v Inv-loop μ-loop
+sub-v c = let d = rw (c .before .before .t2 .given .1) at (did (c .before .before .before .before .before .before)) in d .left .0
+
+mul-v : tie.Need-mul-v Inv-loop μ-loop
+mul-v c = let d = rw (c .before .before .t2 .given .1) at (did (c .before .before .before .before .before .before)) in omega (arith, c .before .before .before .before .before .before .before .before .before .before .before .before .before .before .good, d .left .1 .deep, length-set (c .before .before .before .before .before .before .before .before .before .before .loop .stack) (c .before .before .t2 .given .0 .0 .depth - 1) (c .before .before .t2 .given .0 .1 .0))
+
+slice-set-from-v : tie.Need-slice-set-from-v Inv-loop μ-loop
+slice-set-from-v c = let d = rw (c .before .before .t2 .given .1) at (did (c .before .before .before .before .before .before)) in omega (arith, d .left .0, d .left .1 .deep, length-set (c .before .before .before .before .before .before .before .before .before .before .loop .stack) (c .before .before .t2 .given .0 .0 .depth - 1) (c .before .before .t2 .given .0 .1 .0))
+
+loop-less-2 : tie.Need-loop-less-2 Inv-loop μ-loop
+loop-less-2 c = omega arith
+
+loop-again-2 : tie.Need-loop-again-2 Inv-loop μ-loop
+loop-again-2 c = let d = rw (c .before .before .t2 .given .1) at (did (c .before .before .before .before .before .before)) in
+    let f : SFits w32 (c .before .before .t2 .given .0 .1 .0) = search needs in
+    rw (toZ-ofZ f) (d .left .1, (omega arith, again (c .before .before .before .before .before .before) (d .seen)))
+
+mul-v-2 : tie.Need-mul-v-2 Inv-loop μ-loop
+mul-v-2 c = let d = rw (c .before .t3 .given .1) at (did (c .before .before .before .before .before)) in omega (arith, c .before .before .before .before .before .before .before .before .before .before .before .before .before .good, d .left .0)
+
+slice-set-from-v-2 : tie.Need-slice-set-from-v-2 Inv-loop μ-loop
+slice-set-from-v-2 c = let d = rw (c .before .t3 .given .1) at (did (c .before .before .before .before .before)) in d .left .0
+
+loop-less-3 : tie.Need-loop-less-3 Inv-loop μ-loop
+loop-less-3 c = omega arith
+
+loop-again-3 : tie.Need-loop-again-3 Inv-loop μ-loop
+loop-again-3 c = let d = rw (c .before .t3 .given .1) at (did (c .before .before .before .before .before)) in
+    let f : SFits w32 (c .before .t3 .given .0 .1 .1 .0) = search needs in
+    rw (toZ-ofZ f) (d .left .1, (omega arith, again (c .before .before .before .before .before) (d .seen)))
 
 same-length : tie.Need-same-length Inv-loop μ-loop
-same-length c = c .before .before .before .before .before .before .step .kept .1 .1 .1 .1 .0 ∙ c .before .before .before .before .before .before .before .before .before .before .loop .inv .0 .stack
+same-length c = c .before .before .before .before .before .before .before .before .before .before .loop .inv .0 .stack
 
 same-length-2 : tie.Need-same-length-2 Inv-loop μ-loop
 same-length-2 c = c .before .before .before .before .before .before .step .kept .1 .1 .1 .1 .1 .0 ∙ c .before .before .before .before .before .before .before .before .before .before .loop .inv .0 .size
 
-returns : tie.Need-returns Inv-loop μ-loop
-returns c = let d = rw (c .before .m2 .given .1) at (did (c .before .before .before .before .before .before)) in
-    let k : c .before .before .before .before .before .before .before .before .before .before .before .before .before .args .budget - c .before .before .before .before .before .before .before .before .before .before .loop .steps ≡ suc (c .before .before .before .before .before .before .before .before .before .before .before .before .before .args .budget - (c .before .before .before .before .before .before .before .before .before .before .loop .steps + 1)) = omega arith in
-    rw (d .left) (reports (c .before .before .before .before .before .before .before .before .before .before .loop .inv .0) (c .before .before .before .before .before .before .before .before .before .before .before .before .before .args .budget) _ (c .before .before .before .before .before .before .before .before .before .before .before .before .before .args .budget - (c .before .before .before .before .before .before .before .before .before .before .loop .steps + 1)) (c .before .before .before .before .before .before .before .before .before .before .loop .steps + 1) (M.run (lent (c .before .before .before .before .before .before .before .before .before .before .before .before .before)) (c .before .before .before .before .before .before .before .before .before .before .before .before .before .args .budget) M.fresh) (sym (run-stops (lent (c .before .before .before .before .before .before .before .before .before .before .before .before .before)) (c .before .before .before .before .before .before .before .before .before .before .before .before .before .args .budget - (c .before .before .before .before .before .before .before .before .before .before .loop .steps + 1)) _ (d .seen)) ∙ (rw (← k) (c .before .before .before .before .before .before .before .before .before .before .loop .inv .1 .1))) (omega arith))
+returns-2 : tie.Need-returns-2 Inv-loop μ-loop
+returns-2 c = let d = rw (c .before .before .e .given .1) at (did (c .before .before .before .before .before .before)) in
+    let n = c .before .before .before .before .before .before .before .before .before .before .before .before .before .before .args .budget - (c .before .before .before .before .before .before .before .before .before .before .loop .steps + 1) in
+    rw (c .ended2 .ensures, d .left, even-table (lent (c .before .before .before .before .before .before .before .before .before .before .before .before .before .before)) (c .before .before .before .before .before .before .before .before .before .before .before .before .before .before .args .budget) (c .before .before .before .before .before .before .before .before .before .before .before .if1 .left)) (reported (c .before .before .before .before .before .before .before .before .before .before .loop .inv .0) (c .before .before .before .before .before .before .before .before .before .before .before .before .before .before .args .budget) _ n (c .before .before .before .before .before .before .before .before .before .before .loop .steps + 1) (M.run (lent (c .before .before .before .before .before .before .before .before .before .before .before .before .before .before)) (c .before .before .before .before .before .before .before .before .before .before .before .before .before .before .args .budget) M.fresh) (sym (run-stops (lent (c .before .before .before .before .before .before .before .before .before .before .before .before .before .before)) n _ (d .seen)) ∙ (rw (← left (c .before .before .before .before .before .before)) (c .before .before .before .before .before .before .before .before .before .before .loop .inv .1 .1))) (omega arith))
 
 same-length-3 : tie.Need-same-length-3 Inv-loop μ-loop
-same-length-3 c = c .before .loop .inv .0 .stack
+same-length-3 c = c .before .before .loop .inv .0 .stack
 
 same-length-4 : tie.Need-same-length-4 Inv-loop μ-loop
-same-length-4 c = c .before .loop .inv .0 .size
+same-length-4 c = c .before .before .loop .inv .0 .size
 
-returns-2 : tie.Need-returns-2 Inv-loop μ-loop
+returns-3 : tie.Need-returns-3 Inv-loop μ-loop
 unfolding M.run
-returns-2 c = let k : c .before .before .before .before .args .budget - c .before .loop .steps ≡ 0 = omega arith in
-    reports (c .before .loop .inv .0) (c .before .before .before .before .args .budget) 2 0 (c .before .loop .steps) _ (rw k at (c .before .loop .inv .1 .1)) (omega arith)
+returns-3 c = let k : c .before .before .before .before .before .before .args .budget - c .before .before .loop .steps ≡ 0 = omega arith in
+    rw (c .ended3 .ensures, even-table (lent (c .before .before .before .before .before .before)) (c .before .before .before .before .before .before .args .budget) (c .before .before .before .if1 .left)) (reported (c .before .before .loop .inv .0) (c .before .before .before .before .before .before .args .budget) 2 0 (c .before .before .loop .steps) _ (rw k at (c .before .before .loop .inv .1 .1)) (omega arith))
 
 pub follow-spec : {M : Type 1} → statement M
 follow-spec =
@@ -79,6 +122,8 @@ follow-spec =
     (tie.spec
     Inv-loop
     μ-loop
+    (λ c κs. search needs)
+    returns
     loop-holds
     add-steps
     step-requires
@@ -86,9 +131,22 @@ follow-spec =
     loop-less
     loop-again
     (λ c. search needs)
+    sub-v
+    mul-v
+    slice-set-from-v
+    loop-less-2
+    loop-again-2
+    (λ c. search needs)
+    mul-v-2
+    slice-set-from-v-2
+    loop-less-3
+    loop-again-3
+    (λ c. search needs)
+    (λ c κs. search needs)
     same-length
     same-length-2
-    returns
+    returns-2
+    (λ c κs. search needs)
     same-length-3
     same-length-4
-    returns-2)
+    returns-3)

@@ -2,17 +2,16 @@
 use mathlib.Core.Path.{_≡_, refl}
 use Prim.Native.Nat.{_-_}
 use native.Mathlib.Omega.{arith}
-use borrow.Author.Needs.{needs}
 use denote.Ref.{now}
-use mathlib.Core.List.{append-nil}
-use lib.ListN.{take, drop}
 use mir.Syntax.{w32}
 use mir.Facts.{toZ-ofZ}
+use Rattle.base.specs.Rooms.{said}
 use Rattle.instruction.specs.Instructions.{print-int, takes, gives}
 use Rattle.instruction.proofs.Buffers.{buffer-size, end-part}
 use Rattle.machine.specs.Machine.{names-well, does, tried}
 use Rattle.machine.proofs.Cells.{live-first}
 use Rattle.machine.proofs.Steps.{stops, few, works, also}
+use borrow.Author.Needs.{needs}
 use Rattle.machine.proofs.print.print_int.Statement.{statement}
 use Rattle.machine.proofs.print.print_int.Tie as tie
 
@@ -20,16 +19,16 @@ returns : tie.Need-returns
 unfolding takes
 returns c = λ lent before g. stops g (tried lent print-int) 8 (few g print-int (c .if1 .taken))
 
-write-requires : tie.Need-write-requires
-write-requires c κs = rw (c .before .before .before .before .moved .ensures) (c .before .before .before .before .before .before .before .before .before .before .pre .1)
+part-write-end : tie.Need-part-write-end
+part-write-end c = omega (arith, buffer-size (c .before .before .put-decimal .ensures))
 
 returns-2 : tie.Need-returns-2
-unfolding takes gives names-well does
+unfolding said takes gives names-well does
 returns-2 c = λ lent before g.
-    let put = rw (toZ-ofZ {w = w32} (record { sfits = c .before .before .before .before .before .before .before .before .before .before .put-decimal-arg .given })) at (c .before .before .before .before .before .before .before .before .put-decimal .ensures) in
-    also (c .before .before .write .ensures lent (now (c .before .before .before .before .before .before .before .before .before .before .before .before .before .args .stack)) before (rw (c .before .before .before .before .before .before .before .moved .ensures) (record { deep = omega arith; stack = g .stack; within = g .within; size = g .size; past = g .past; whole = g .whole })))
-    (rw (c .before .before .before .before .before .before .before .moved .ensures, append-nil (take (20 - c .before .before .before .before .before .before .before .before .put-decimal .result) (drop (c .before .before .before .before .before .before .before .before .put-decimal .result) (c .before .before .before .before .before .before .before .before .put-decimal .last .1 .0))), end-part put)
-    (works g print-int (c .before .before .before .before .before .before .before .before .before .before .before .before .before .args .s .depth - 1) (c .before .before .before .before .before .before .before .before .before .before .before .if1 .left) refl refl (omega arith) refl (live-first (c .before .before .before .before .before .before .before .before .before .before .before .before .before .args .s .depth) (now (c .before .before .before .before .before .before .before .before .before .before .before .before .before .args .stack)) (c .before .before .before .before .before .before .before .before .before .before .before .if1 .left))))
+    let put = rw (toZ-ofZ {w = w32} (record { sfits = c .before .before .before .before .before .before .before .before .before .put-decimal-arg .given })) at (c .before .before .before .before .before .before .before .put-decimal .ensures) in
+    also (c .before .before .write .ensures lent (now (c .before .before .before .before .before .before .before .before .before .before .before .before .args .stack)) before (rw (c .before .before .before .before .before .before .moved .ensures) (record { deep = omega arith; stack = g .stack; within = g .within; size = g .size; past = g .past; whole = g .whole })))
+    (rw (c .before .before .before .before .before .before .moved .ensures, end-part put)
+    (works g print-int (c .before .before .before .before .before .before .before .before .before .before .before .before .args .s .depth - 1) (c .before .before .before .before .before .before .before .before .before .before .if1 .left) refl refl (omega arith) refl (live-first (c .before .before .before .before .before .before .before .before .before .before .before .before .args .s .depth) (now (c .before .before .before .before .before .before .before .before .before .before .before .before .args .stack)) (c .before .before .before .before .before .before .before .before .before .before .if1 .left))))
 
 pub print-int-spec : {M : Type 1} → statement M
 print-int-spec =
@@ -42,8 +41,7 @@ print-int-spec =
     (λ c κs. search needs)
     (λ c. search needs)
     (λ c. search needs)
-    (λ c. omega (arith, buffer-size (c .before .before .put-decimal .ensures)))
-    (λ c. search needs)
-    write-requires
+    part-write-end
+    (λ c κs. search needs)
     (λ c. search needs)
     returns-2)

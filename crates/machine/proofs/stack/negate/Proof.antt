@@ -2,14 +2,14 @@
 use mathlib.Core.Path.{refl}
 use Prim.Native.Nat.{_-_}
 use native.Mathlib.Omega.{arith}
-use borrow.Author.Needs.{needs}
 use denote.Ref.{now}
 use mir.Syntax.{w32}
 use mir.Facts.{toZ-ofZ}
 use Rattle.instruction.specs.Instructions.{negate, takes, gives}
 use Rattle.machine.specs.Machine.{names-well, does, tried}
 use Rattle.machine.proofs.Cells.{live-first}
-use Rattle.machine.proofs.Steps.{stops, few, works, also}
+use Rattle.machine.proofs.Steps.{stops, few, works, does-put}
+use borrow.Author.Needs.{needs}
 use Rattle.machine.proofs.stack.negate.Statement.{statement}
 use Rattle.machine.proofs.stack.negate.Tie as tie
 
@@ -20,8 +20,8 @@ returns c = λ lent room before g. stops g (tried lent negate) 8 (few g negate (
 returns-2 : tie.Need-returns-2
 unfolding takes gives names-well does
 returns-2 c = λ lent room before g.
-    also (c .before .put .ensures lent room before g)
-    (rw (c .before .before .negated .ensures, toZ-ofZ {w = w32} (record { sfits = c .before .before .before .before .v .given })) (works g negate (c .before .before .before .before .before .before .args .s .depth - 1) (c .before .before .before .before .before .if1 .left) refl refl (omega arith) refl (live-first (c .before .before .before .before .before .before .args .s .depth) (now (c .before .before .before .before .before .before .args .stack)) (c .before .before .before .before .before .if1 .left))))
+    rw (c .put .ensures) (does-put g (tried lent negate) (c .before .before .before .before .args .s .depth - 1) (c .before .negated .result) (omega (arith, c .before .before .before .if1 .left, c .before .before .before .before .pre))
+    (rw (c .before .negated .ensures, toZ-ofZ {w = w32} (record { sfits = c .before .before .negated-arg .given })) (works g negate (c .before .before .before .before .args .s .depth - 1) (c .before .before .before .if1 .left) refl refl (omega arith) refl (live-first (c .before .before .before .before .args .s .depth) (now (c .before .before .before .before .args .stack)) (c .before .before .before .if1 .left)))))
 
 pub negate-spec : {M : Type 1} → statement M
 negate-spec =
@@ -32,5 +32,4 @@ negate-spec =
     (λ c. search needs)
     (λ c κs. search needs)
     (λ c κs. search needs)
-    (λ c. search needs)
     returns-2)

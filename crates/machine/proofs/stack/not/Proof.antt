@@ -2,7 +2,6 @@
 use mathlib.Core.Path.{refl}
 use Prim.Native.Nat.{_-_}
 use native.Mathlib.Omega.{arith}
-use borrow.Author.Needs.{needs}
 use denote.Ref.{now}
 use lib.IntN.{pos}
 use lib.ListN.{getD}
@@ -10,10 +9,11 @@ use mir.Syntax.{w32}
 use mir.Facts.{toZ-ofZ}
 use Rattle.instruction.specs.Numbers.{negation}
 use Rattle.instruction.specs.Instructions.{not, takes, gives}
-use Rattle.machine.specs.Machine.{resulting, names-well, does, tried}
+use Rattle.machine.specs.Machine.{names-well, pushed, does, tried}
 use Rattle.instruction.proofs.Signed.{zero-test}
 use Rattle.machine.proofs.Cells.{live-first}
-use Rattle.machine.proofs.Steps.{stops, few, works, also}
+use Rattle.machine.proofs.Steps.{stops, few, works, does-push}
+use borrow.Author.Needs.{needs}
 use Rattle.machine.proofs.stack.not.Statement.{statement}
 use Rattle.machine.proofs.stack.not.Tie as tie
 
@@ -22,19 +22,13 @@ unfolding takes
 returns c = λ lent room before g. stops g (tried lent not) 8 (few g not (c .if1 .taken))
 
 returns-2 : tie.Need-returns-2
-unfolding takes gives names-well does resulting negation
+unfolding takes gives names-well pushed does negation
 returns-2 c = λ lent room before g.
-    also (c .before .put .ensures lent room before g)
-    (rw (toZ-ofZ {w = w32} (record { sfits = c .before .before .truth .ok }), c .before .before .truth .ensures, zero-test (getD (now (c .before .before .before .before .before .before .args .stack)) (c .before .before .before .before .before .before .args .s .depth - 1) (pos 0)) (record { sfits = c .before .before .before .before .v .given })) (works g not (c .before .before .before .before .before .before .args .s .depth - 1) (c .before .before .before .before .before .if1 .left) refl refl (omega arith) refl (live-first (c .before .before .before .before .before .before .args .s .depth) (now (c .before .before .before .before .before .before .args .stack)) (c .before .before .before .before .before .if1 .left))))
+    let x = getD (now (c .before .before .before .before .args .stack)) (c .before .before .before .before .args .s .depth - 1) (pos 0) in
+    rw (c .push .ensures, toZ-ofZ {w = w32} (record { sfits = c .before .truth .ok }), c .before .truth .ensures, zero-test x (record { sfits = c .before .before .truth-arg .given }))
+    (does-push g (tried lent not) (c .before .before .before .before .args .s .depth - 1) (negation x) (omega (arith, c .before .before .before .if1 .left, c .before .before .before .before .pre)) (works g not (c .before .before .before .before .args .s .depth - 1) (c .before .before .before .if1 .left) refl refl (omega arith) refl (live-first (c .before .before .before .before .args .s .depth) (now (c .before .before .before .before .args .stack)) (c .before .before .before .if1 .left))))
 
 pub not-spec : {M : Type 1} → statement M
 not-spec =
     tie.close
-    (tie.spec
-    returns
-    (λ c. search needs)
-    (λ c. search needs)
-    (λ c κs. search needs)
-    (λ c κs. search needs)
-    (λ c. search needs)
-    returns-2)
+    (tie.spec returns (λ c. search needs) (λ c. search needs) (λ c κs. search needs) (λ c κs. search needs) returns-2)

@@ -1,7 +1,6 @@
 -- `stack::two_sided` meets its contract. Assumes nothing.
 use mathlib.Core.Path.{_≡_, refl}
 use native.Mathlib.Omega.{arith}
-use borrow.Author.Needs.{needs}
 use denote.Ref.{now}
 use Prim.Native.Nat.{_-_}
 use lib.IntN.{pos}
@@ -13,7 +12,8 @@ use Rattle.instruction.specs.Instructions.{two-sided, takes, gives}
 use Rattle.machine.specs.Machine.{names-well, does, tried}
 use Rattle.instruction.specs.Coded.{as-result, as-two-sided}
 use Rattle.machine.proofs.Cells.{live-first, live-second}
-use Rattle.machine.proofs.Steps.{stops, few, works, also}
+use Rattle.machine.proofs.Steps.{stops, few, works, does-put}
+use borrow.Author.Needs.{needs}
 use Rattle.machine.proofs.stack.two_sided.Statement.{statement}
 use Rattle.machine.proofs.stack.two_sided.Tie as tie
 
@@ -24,12 +24,13 @@ returns c = λ lent room before g. stops g (tried lent (two-sided (as-two-sided 
 returns-2 : tie.Need-returns-2
 unfolding takes gives names-well does
 returns-2 c = λ lent room before g.
-    let cells = now (c .before .before .before .before .before .before .before .args .stack) in
-    let d = c .before .before .before .before .before .before .before .args .s .depth in
+    let cells = now (c .before .before .before .before .before .args .stack) in
+    let d = c .before .before .before .before .before .args .s .depth in
     let x = getD cells (d - 2) (pos 0) in
     let y = getD cells (d - 1) (pos 0) in
-    let calculated : as-result (c .before .before .calculate .result) ≡ calculate (as-two-sided (c .before .before .before .before .before .before .before .args .k)) x y = rw (toZ-ofZ {w = w32} {z = x} (record { sfits = c .before .before .before .before .before .a .given }), toZ-ofZ {w = w32} {z = y} (record { sfits = c .before .before .before .before .b .given })) at (c .before .before .calculate .ensures) in
-    also (c .before .put .ensures lent room before g) (rw calculated (works g (two-sided (as-two-sided (c .before .before .before .before .before .before .before .args .k))) (d - 2) (c .before .before .before .before .before .before .if1 .left) refl refl (omega arith) (live-second d cells (c .before .before .before .before .before .before .if1 .left)) (live-first d cells (omega (arith, c .before .before .before .before .before .before .if1 .left)))))
+    let calculated : as-result (c .before .calculate .result) ≡ calculate (as-two-sided (c .before .before .before .before .before .args .k)) x y = rw (toZ-ofZ {w = w32} {z = x} (record { sfits = c .before .before .before .calculate-arg .given }), toZ-ofZ {w = w32} {z = y} (record { sfits = c .before .before .calculate-arg2 .given })) at (c .before .calculate .ensures) in
+    rw (c .put .ensures) (does-put g (tried lent (two-sided (as-two-sided (c .before .before .before .before .before .args .k)))) (d - 2) (c .before .calculate .result) (omega (arith, c .before .before .before .before .if1 .left, c .before .before .before .before .before .pre))
+    (rw calculated (works g (two-sided (as-two-sided (c .before .before .before .before .before .args .k))) (d - 2) (c .before .before .before .before .if1 .left) refl refl (omega arith) (live-second d cells (c .before .before .before .before .if1 .left)) (live-first d cells (omega (arith, c .before .before .before .before .if1 .left))))))
 
 pub two-sided-spec : {M : Type 1} → statement M
 two-sided-spec =
@@ -43,5 +44,4 @@ two-sided-spec =
     (λ c. search needs)
     (λ c κs. search needs)
     (λ c κs. search needs)
-    (λ c. search needs)
     returns-2)
