@@ -13,11 +13,12 @@ use borrow.Author.Tests.{lt-ltb, le-ltb}
 use Rattle.instruction.specs.Endings.{stack-full, bad-code}
 use Rattle.base.specs.Rooms.{said}
 use Rattle.instruction.specs.Coded.{as-result, as-instruction}
+use Rattle.instruction.specs.declared.decode.Op.{Op}
 use Rattle.instruction.specs.declared.decode.Op.the-variants.{PrintStr}
 use Rattle.instruction.specs.declared.arith.Calculated.{Calculated}
 use Rattle.instruction.specs.declared.arith.Calculated.the-variants.{Value, Ends}
-use Rattle.instruction.specs.Instructions.{Instruction, halt, push-int, load-stack, takes, gives}
-use Rattle.machine.specs.Machine.{Lent, Machine, string, closed, go, stop, pushed, jumped, resulting, names-well, prints, does, tried, decoded}
+use Rattle.instruction.specs.Instructions.{Instruction, halt, push-int, load-stack, decode, takes, gives}
+use Rattle.machine.specs.Machine.{Lent, Machine, string, closed, go, stop, pushed, jumped, resulting, names-well, prints, does, pairs, tried, decoded, fetched, step}
 use Rattle.machine.specs.declared.state.State.{State}
 use Rattle.machine.specs.declared.state.Move.{Move}
 use Rattle.machine.specs.declared.state.Move.the-variants.{Go, Set, Stop}
@@ -99,6 +100,15 @@ pub says : (lent : Lent) (q : ℕ) (line : Bool) (m : Machine) → cond (closed 
 unfolding said decoded tried takes gives names-well does
 says lent q true m = rw (le-ltb (length (m .stack)) 0 (omega arith), le-ltb (lent .cells - length (m .stack)) 0 (omega arith))
 says lent q false m = rw (le-ltb (length (m .stack)) 0 (omega arith), le-ltb (lent .cells - length (m .stack)) 0 (omega arith))
+
+-- what was decoded at an index, done at the state past it, is what the rule does next
+pub fetches : (lent : Lent) (o : Op) (t : State) (cells : List ℤ) (room : List ℕ) → t .index % 2 ≡ 0 → t .index < length (lent .table) → length (lent .table) % 2 ≡ 0 → as-instruction o ≡ decode (getD (lent .table) (t .index) (pos 0)) (getD (lent .table) (t .index + 1) (pos 0)) →
+    decoded lent (as-instruction o) (machine-of (moves-to t (t .index + 2) (t .depth)) cells room) ≡ step lent (machine-of t cells room)
+unfolding step fetched pairs
+fetches lent o t cells room w h l e =
+    let whole : t .index / 2 * 2 ≡ t .index = omega (arith, w) in
+    let next : (t .index + 2) / 2 ≡ suc (t .index / 2) = omega arith in
+    rw (next, whole, lt-ltb (t .index / 2) (length (lent .table) / 2) (omega (arith, w, h, l)), ← e)
 
 -- a jump goes to the pair that it names
 pub jumps-to : (s : State) (a d : ℕ) (cells : List ℤ) (room : List ℕ) → go (machine-of (moves-to s (a * 2) d) cells room) ≡ jumped a (machine-of (moves-to s (s .index) d) cells room)

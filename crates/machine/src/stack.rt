@@ -108,11 +108,9 @@ fn two_sided(s: State, stack: &[i32], k: Operator) -> Move
     if depth < 2 {
         return Move::Stop(endings::BAD_CODE);
     }
-    put(
-        s,
-        depth - 2,
-        calculate(k, stack[depth - 2], stack[depth - 1]),
-    )
+    let a = stack[depth - 2];
+    let b = stack[depth - 1];
+    put(s, depth - 2, calculate(k, a, b))
 }
 
 // Each operator is handed in by its own arm, so that a step tells the operators apart once.

@@ -44,6 +44,7 @@ fn perform(
     }
 }
 
+// The next instruction is fetched and decoded, and then done.
 pub fn step(
     t: State,
     text: &[u8],

@@ -1,16 +1,19 @@
 -- `follow` meets its contract. The loop's invariant: the state is good, and the run from here with the budget left is the run from the start.
 -- The measure is the budget left. Assumes nothing.
 use mathlib.Core.Path.{_≡_, refl, sym, _∙_}
-use Prim.Native.Nat.{suc, _-_, _+_, _≤_}
+use Prim.Native.Nat.{ℕ, suc, _-_, _+_, _≤_, _<_}
 use native.Mathlib.Nat.{sub-zero}
 use native.Mathlib.Omega.{arith}
 use borrow.Author.Needs.{needs}
 use denote.Ref.{now}
-use lib.ListN.{length-set}
+use lib.IntN.{ℤ}
+use lib.ListN.{length, length-set}
 use mir.Syntax.{w32}
 use mir.Val.{SFits}
 use mir.Facts.{toZ-ofZ}
 use Rattle.machine.specs.Machine as M
+use Rattle.machine.specs.declared.state.State.{State}
+use Rattle.machine.specs.declared.state.Move.the-variants.{Put, Set}
 use Rattle.machine.specs.Coded.{live, machine-of, Good, Did}
 use Rattle.machine.specs.Promise.{lends}
 use Rattle.machine.proofs.Runs.{run-goes, run-stops, reported, odd-table, even-table}
@@ -44,6 +47,13 @@ left c = omega arith
 again : (c : tie.After-step Inv-loop μ-loop) {m : M.Machine} → M.go m ≡ M.step (lent (c .before .before .before .before .before .before .before .before)) (machine-of (c .before .before .before .before .loop .s) (c .before .before .before .before .loop .stack) (c .before .before .before .before .loop .out)) → M.run (lent (c .before .before .before .before .before .before .before .before)) (c .before .before .before .before .before .before .before .before .args .budget - (c .before .before .before .before .loop .steps + 1)) m ≡ M.run (lent (c .before .before .before .before .before .before .before .before)) (c .before .before .before .before .before .before .before .before .args .budget) M.fresh
 again c e = sym (run-goes (lent (c .before .before .before .before .before .before .before .before)) (c .before .before .before .before .before .before .before .before .args .budget - (c .before .before .before .before .loop .steps + 1)) _ e) ∙ (rw (← left c) (c .before .before .before .before .loop .inv .1 .1))
 
+-- a push leaves a top cell, and the stack has it
+put-left : (c : tie.After-step Inv-loop μ-loop) {t : State} {v : ℤ} → c .step .result ≡ Put t v → (1 ≤ t .depth) × (t .depth ≤ length (c .before .before .before .before .loop .stack))
+put-left c {t} {v} e = let d = rw e at (did c) in (d .left .0, omega (arith, d .left .1 .deep, length-set (c .before .before .before .before .loop .stack) (t .depth - 1) v))
+
+set-left : (c : tie.After-step Inv-loop μ-loop) {t : State} {k : ℕ} {v : ℤ} → c .step .result ≡ Set t k v → k < length (c .before .before .before .before .loop .stack)
+set-left c e = (rw e at (did c)) .left .0
+
 returns : tie.Need-returns Inv-loop μ-loop
 returns c = rw (c .ended .ensures) (odd-table (lent (c .before .before .before .before)) (c .before .before .before .before .args .budget) (now (c .before .before .before .before .args .out)) (c .before .if1 .taken))
 
@@ -64,13 +74,13 @@ loop-again : tie.Need-loop-again Inv-loop μ-loop
 loop-again c = let d = rw (c .before .t .given .1) at (did (c .before .before .before .before .before)) in (d .left, (omega arith, again (c .before .before .before .before .before) (d .seen)))
 
 sub-v : tie.Need-sub-v Inv-loop μ-loop
-sub-v c = let d = rw (c .before .before .t2 .given .1) at (did (c .before .before .before .before .before .before)) in d .left .0
+sub-v c = put-left (c .before .before .before .before .before .before) (c .before .before .t2 .given .1) .0
 
 mul-v : tie.Need-mul-v Inv-loop μ-loop
-mul-v c = let d = rw (c .before .before .t2 .given .1) at (did (c .before .before .before .before .before .before)) in omega (arith, c .before .before .before .before .before .before .before .before .before .before .before .before .before .before .good, d .left .1 .deep, length-set (c .before .before .before .before .before .before .before .before .before .before .loop .stack) (c .before .before .t2 .given .0 .0 .depth - 1) (c .before .before .t2 .given .0 .1 .0))
+mul-v c = omega (arith, c .before .before .before .before .before .before .before .before .before .before .before .before .before .before .good, put-left (c .before .before .before .before .before .before) (c .before .before .t2 .given .1) .1)
 
 slice-set-from-v : tie.Need-slice-set-from-v Inv-loop μ-loop
-slice-set-from-v c = let d = rw (c .before .before .t2 .given .1) at (did (c .before .before .before .before .before .before)) in omega (arith, d .left .0, d .left .1 .deep, length-set (c .before .before .before .before .before .before .before .before .before .before .loop .stack) (c .before .before .t2 .given .0 .0 .depth - 1) (c .before .before .t2 .given .0 .1 .0))
+slice-set-from-v c = omega (arith, put-left (c .before .before .before .before .before .before) (c .before .before .t2 .given .1) .0, put-left (c .before .before .before .before .before .before) (c .before .before .t2 .given .1) .1)
 
 loop-less-2 : tie.Need-loop-less-2 Inv-loop μ-loop
 loop-less-2 c = omega arith
@@ -81,10 +91,10 @@ loop-again-2 c = let d = rw (c .before .before .t2 .given .1) at (did (c .before
     rw (toZ-ofZ f) (d .left .1, (omega arith, again (c .before .before .before .before .before .before) (d .seen)))
 
 mul-v-2 : tie.Need-mul-v-2 Inv-loop μ-loop
-mul-v-2 c = let d = rw (c .before .t3 .given .1) at (did (c .before .before .before .before .before)) in omega (arith, c .before .before .before .before .before .before .before .before .before .before .before .before .before .good, d .left .0)
+mul-v-2 c = omega (arith, c .before .before .before .before .before .before .before .before .before .before .before .before .before .good, set-left (c .before .before .before .before .before) (c .before .t3 .given .1))
 
 slice-set-from-v-2 : tie.Need-slice-set-from-v-2 Inv-loop μ-loop
-slice-set-from-v-2 c = let d = rw (c .before .t3 .given .1) at (did (c .before .before .before .before .before)) in d .left .0
+slice-set-from-v-2 c = set-left (c .before .before .before .before .before) (c .before .t3 .given .1)
 
 loop-less-3 : tie.Need-loop-less-3 Inv-loop μ-loop
 loop-less-3 c = omega arith

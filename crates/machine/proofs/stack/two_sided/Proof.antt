@@ -28,7 +28,7 @@ returns-2 c = λ lent room before g.
     let d = c .before .before .before .before .before .args .s .depth in
     let x = getD cells (d - 2) (pos 0) in
     let y = getD cells (d - 1) (pos 0) in
-    let calculated : as-result (c .before .calculate .result) ≡ calculate (as-two-sided (c .before .before .before .before .before .args .k)) x y = rw (toZ-ofZ {w = w32} {z = x} (record { sfits = c .before .before .before .calculate-arg .given }), toZ-ofZ {w = w32} {z = y} (record { sfits = c .before .before .calculate-arg2 .given })) at (c .before .calculate .ensures) in
+    let calculated : as-result (c .before .calculate .result) ≡ calculate (as-two-sided (c .before .before .before .before .before .args .k)) x y = rw (toZ-ofZ {w = w32} {z = x} (record { sfits = c .before .before .before .a .given }), toZ-ofZ {w = w32} {z = y} (record { sfits = c .before .before .b .given })) at (c .before .calculate .ensures) in
     rw (c .put .ensures) (does-put g (tried lent (two-sided (as-two-sided (c .before .before .before .before .before .args .k)))) (d - 2) (c .before .calculate .result) (omega (arith, c .before .before .before .before .if1 .left, c .before .before .before .before .before .pre))
     (rw calculated (works g (two-sided (as-two-sided (c .before .before .before .before .before .args .k))) (d - 2) (c .before .before .before .before .if1 .left) refl refl (omega arith) (live-second d cells (c .before .before .before .before .if1 .left)) (live-first d cells (omega (arith, c .before .before .before .before .if1 .left))))))
 

@@ -1,6 +1,6 @@
 -- `step::step` meets its contract: what was decoded is what the rule does next. Assumes nothing.
-use mathlib.Core.Path.{_≡_, refl}
-use Prim.Native.Nat.{suc, _+_, _*_, _/_}
+use mathlib.Core.Path.{refl}
+use Prim.Native.Nat.{_/_}
 use native.Mathlib.Omega.{arith}
 use borrow.Author.Tests.{lt-ltb, le-ltb}
 use denote.Ref.{now}
@@ -10,7 +10,7 @@ use mir.Syntax.{w32}
 use mir.Facts.{toZ-ofZ}
 use Rattle.machine.specs.Machine as M
 use Rattle.machine.specs.Promise.{lends}
-use Rattle.machine.proofs.Steps.{stops, also}
+use Rattle.machine.proofs.Steps.{stops, also, fetches}
 use borrow.Author.Needs.{needs}
 use Rattle.machine.proofs.step.step.Statement.{statement}
 use Rattle.machine.proofs.step.step.Tie as tie
@@ -21,13 +21,11 @@ returns c = λ before g. stops g _ 8 (rw (le-ltb (c .before .before .before .arg
 
 -- what was decoded is what the rule does next
 returns-2 : tie.Need-returns-2
-unfolding M.step M.fetched M.pairs
+unfolding M.pairs
 returns-2 c = λ before g.
     let decoded = rw (toZ-ofZ {w = w32} {z = getD (now (c .before .before .before .before .before .before .before .before .before .before .args .table)) (c .before .before .before .before .before .before .before .before .before .before .args .t .index) (pos 0)} (record { sfits = c .before .before .before .before .before .before .decode-arg .given }), toZ-ofZ {w = w32} (record { sfits = c .before .before .before .before .before .decode-arg2 .given })) at (c .before .before .before .before .decode .ensures) in
-    let whole : c .before .before .before .before .before .before .before .before .before .before .args .t .index / 2 * 2 ≡ c .before .before .before .before .before .before .before .before .before .before .args .t .index = omega (arith, g .whole) in
-    let next : (c .before .before .before .before .before .before .before .before .before .before .args .t .index + 2) / 2 ≡ suc (c .before .before .before .before .before .before .before .before .before .before .args .t .index / 2) = omega arith in
     also (c .before .before .perform .ensures (lends (now (c .before .before .before .before .before .before .before .before .before .before .args .text)) (now (c .before .before .before .before .before .before .before .before .before .before .args .table)) (now (c .before .before .before .before .before .before .before .before .before .before .args .readings)) (now (c .before .before .before .before .before .before .before .before .before .before .args .cells)) (now (c .before .before .before .before .before .before .before .before .before .before .args .out))) refl refl refl before (record { deep = g .deep; stack = g .stack; within = g .within; size = g .size; past = g .past; whole = omega (arith, g .whole) }))
-    (rw (next, whole, lt-ltb (c .before .before .before .before .before .before .before .before .before .before .args .t .index / 2) (length (now (c .before .before .before .before .before .before .before .before .before .before .args .table)) / 2) (omega (arith, c .before .before .before .before .before .before .before .if1 .left, c .before .before .before .before .before .before .before .before .before .before .pre .1 .1, g .whole)), ← decoded))
+    (fetches (lends (now (c .before .before .before .before .before .before .before .before .before .before .args .text)) (now (c .before .before .before .before .before .before .before .before .before .before .args .table)) (now (c .before .before .before .before .before .before .before .before .before .before .args .readings)) (now (c .before .before .before .before .before .before .before .before .before .before .args .cells)) (now (c .before .before .before .before .before .before .before .before .before .before .args .out))) (c .before .before .before .before .decode .result) (c .before .before .before .before .before .before .before .before .before .before .args .t) (now (c .before .before .before .before .before .before .before .before .before .before .args .cells)) (now (c .before .before .before .before .before .before .before .before .before .before .args .out)) (g .whole) (c .before .before .before .before .before .before .before .if1 .left) (c .before .before .before .before .before .before .before .before .before .before .pre .1 .1) decoded)
 
 pub step-spec : {M : Type 1} → statement M
 step-spec =
