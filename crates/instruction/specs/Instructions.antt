@@ -99,32 +99,23 @@ decode (negsuc n) a = none
 
 -- ---- what each takes from the stack, and what it gives
 
-unfoldable pub takes : Instruction → ℕ
-takes (halt h) = 0
-takes (push-int v) = 0
-takes (load-stack k) = 0
-takes (store-stack k) = 1
-takes (jump a) = 0
-takes (jump-if-false a) = 1
-takes (two-sided o) = 2
-takes negate = 1
-takes not = 1
-takes read = 0
-takes print-int = 1
-takes (print-str s) = 0
-takes (print-str-ln s) = 0
+unfoldable pub effect : Instruction → ℕ × ℕ
+effect (halt h) = (0, 0)
+effect (push-int v) = (0, 1)
+effect (load-stack k) = (0, 1)
+effect (store-stack k) = (1, 0)
+effect (jump a) = (0, 0)
+effect (jump-if-false a) = (1, 0)
+effect (two-sided o) = (2, 1)
+effect negate = (1, 1)
+effect not = (1, 1)
+effect read = (0, 1)
+effect print-int = (1, 0)
+effect (print-str s) = (0, 0)
+effect (print-str-ln s) = (0, 0)
 
-unfoldable pub gives : Instruction → ℕ
-gives (halt h) = 0
-gives (push-int v) = 1
-gives (load-stack k) = 1
-gives (store-stack k) = 0
-gives (jump a) = 0
-gives (jump-if-false a) = 0
-gives (two-sided o) = 1
-gives negate = 1
-gives not = 1
-gives read = 1
-gives print-int = 0
-gives (print-str s) = 0
-gives (print-str-ln s) = 0
+abbrev pub takes : Instruction → ℕ
+takes i = effect i .0
+
+abbrev pub gives : Instruction → ℕ
+gives i = effect i .1

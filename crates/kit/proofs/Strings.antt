@@ -24,14 +24,14 @@ module _ (text : List ℕ) where
   Good (fixed f) = Unit {0}
 
   next-good : (at : ℕ) (m : Placed) (e : ℕ) → next text at ≡ given (lexeme m e) → Good (m .what)
-  unfolding M.string M.closed M.string-from
+  unfolding M.string M.closed
   next-good at m e n = by (m .what) (next-fits text at m e n .1 .written)
     where
       by : (l : Lexeme) → Written text (m .place) e l → Good l
       by (lit v) w = tt
       by (name x) w = tt
       by (class x) w = tt
-      by (string q) w = rw (w .1 .inside, lt-ltb _ _ (w .1 .quote))
+      by (string q) w = (rw (w .1 .inside) (lt-ltb _ _ (w .1 .quote)), w .1 .inside)
       by (fixed f) w = tt
 
   pub data All : List Lexeme → Type 0 where

@@ -20,12 +20,3 @@ pub record Limits : Type 0 where
   pub declarations : ℕ
   -- instructions of a text's code
   pub instructions : ℕ
-
--- what the paper's second program gives a run: its numbers stand in src/lib.rt too, as `⟦Station::BUDGET⟧`
-pub record Station : Type 0 where
-  -- steps that a run may take
-  pub budget : ℕ
-  -- bytes of its output room
-  pub room : ℕ
-  -- readings taken from the input, at most
-  pub readings : ℕ

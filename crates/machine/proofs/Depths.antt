@@ -13,7 +13,7 @@ use lib.ListN.{length, getD, drop, length-drop}
 use borrow.Author.Tests.{ltb-false}
 use Rattle.instruction.specs.Endings.{stack-full, bad-code}
 use Rattle.instruction.specs.Numbers.{Result, value, ends, in-range, calculate, is-false, decimal}
-use Rattle.instruction.specs.Instructions.{Instruction, halt, push-int, load-stack, store-stack, jump, jump-if-false, two-sided, negate, not, read, print-int, print-str, print-str-ln, takes, gives}
+use Rattle.instruction.specs.Instructions.{Instruction, halt, push-int, load-stack, store-stack, jump, jump-if-false, two-sided, negate, not, read, print-int, print-str, print-str-ln, takes, gives, effect}
 use Rattle.machine.specs.Machine.{Lent, Outside, Machine, string, reading, printed, peek, poke, Step, go, stop, pushed, left-with, jumped, resulting, taken, written, names-well, prints, does, tried}
 
 -- where it goes on, n values are left
@@ -56,7 +56,7 @@ writings (some o) m = goes _ _ (rw (add-zero (length (m .stack))))
 
 module _ (lent : Lent) where
   leaves : (i : Instruction) (x y : ℤ) (m : Machine) → Leaves (length (m .stack) + gives i) (does lent i x y m)
-  unfolding gives does left-with jumped prints
+  unfolding effect does left-with jumped prints
   leaves (halt h) x y m = stops h _
   leaves (push-int v) x y m = pushes v m
   leaves (load-stack k) x y m = pushes _ m

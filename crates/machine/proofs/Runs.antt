@@ -7,7 +7,7 @@ use lib.ListN.{length, take, take-append-drop}
 use lib.Seq.{length-take-le}
 use borrow.Author.Tests.{eq-eqb, ne-eqb}
 use Rattle.instruction.specs.Endings.{bad-code}
-use Rattle.machine.specs.Machine.{Lent, Machine, fresh, go, stop, step, Stopped, run, end-of, Report, report, bad-table, whole-run, room-after}
+use Rattle.machine.specs.Machine.{Lent, Machine, fresh, go, stop, step, Stopped, run, end-of, Report, report, whole-run, room-after}
 use Rattle.machine.specs.declared.Report as Code
 use Rattle.machine.specs.declared.state.State.{State}
 use Rattle.machine.specs.Coded.{machine-of, Good, reports}
@@ -41,7 +41,7 @@ reported {s = s} {room = room} g budget e left steps w p q = rw (← p) (record 
 -- a table of odd length, and one of even length
 module _ (lent : Lent) (budget : ℕ) where
   pub odd-table : (before : List ℕ) → (length (lent .table) % 2 ≡ 0 → ⊥) → Reported (whole-run lent budget) before (record { ending = bad-code; steps = 0; used = 0; length = 0 }) before
-  unfolding whole-run bad-table room-after
+  unfolding whole-run room-after
   odd-table before h = rw (ne-eqb (length (lent .table) % 2) 0 h) (record { ending = refl; steps = refl; used = refl; size = refl; room = refl })
 
   pub even-table : length (lent .table) % 2 ≡ 0 → whole-run lent budget ≡ report budget (end-of (run lent budget fresh))

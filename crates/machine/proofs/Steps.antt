@@ -17,7 +17,7 @@ use Rattle.instruction.specs.declared.decode.Op.{Op}
 use Rattle.instruction.specs.declared.decode.Op.the-variants.{PrintStr}
 use Rattle.instruction.specs.declared.arith.Calculated.{Calculated}
 use Rattle.instruction.specs.declared.arith.Calculated.the-variants.{Value, Ends}
-use Rattle.instruction.specs.Instructions.{Instruction, halt, push-int, load-stack, decode, takes, gives}
+use Rattle.instruction.specs.Instructions.{Instruction, halt, push-int, load-stack, decode, takes, gives, effect}
 use Rattle.machine.specs.Machine.{Lent, Machine, string, closed, go, stop, pushed, jumped, resulting, names-well, prints, does, pairs, tried, decoded, fetched, step}
 use Rattle.machine.specs.declared.state.State.{State}
 use Rattle.machine.specs.declared.state.Move.{Move}
@@ -87,17 +87,17 @@ module _ {lent : Lent} {before : List ℕ} {s : State} {cells : List ℤ} {room 
       works w f p q = rw (← p, ← q, ← l, ← live-drop (takes i) (s .depth) cells h) (T.works lent i (machine-of s cells room) d deep left w (rw (length-live (s .depth) cells, ← g .stack) f))
 
   pub halts : (h : ℕ) → stop h ≡ tried lent (halt h) (machine-of s cells room)
-  unfolding takes gives names-well does
+  unfolding effect names-well does
   halts h = works (halt h) (s .depth) (omega arith) (sub-zero (s .depth)) refl (omega arith) refl refl
 
   -- a load is a push once the cell is there
   pub loads : (k : ℕ) → k < s .depth → tried lent (push-int (getD cells k (pos 0))) (machine-of s cells room) ≡ tried lent (load-stack k) (machine-of s cells room)
-  unfolding tried takes gives names-well does
+  unfolding tried effect names-well does
   loads k h = rw (length-live (s .depth) cells, sub-zero (s .depth), lt-ltb k (s .depth) h, peek-live (s .depth) k cells h)
 
 -- a string that is closed is printed
 pub says : (lent : Lent) (q : ℕ) (line : Bool) (m : Machine) → cond (closed (lent .text) q) (prints lent (said line (string (lent .text) q)) m) (stop bad-code) ≡ decoded lent (as-instruction (PrintStr q line)) m
-unfolding said decoded tried takes gives names-well does
+unfolding said decoded tried effect names-well does
 says lent q true m = rw (le-ltb (length (m .stack)) 0 (omega arith), le-ltb (lent .cells - length (m .stack)) 0 (omega arith))
 says lent q false m = rw (le-ltb (length (m .stack)) 0 (omega arith), le-ltb (lent .cells - length (m .stack)) 0 (omega arith))
 

@@ -1,15 +1,14 @@
 -- Laws of a string in the text, by where its closing quote was looked for. Assumes nothing.
-use mathlib.Core.Path.{_≡_, refl}
+use mathlib.Core.Path.{_≡_}
 use mathlib.Core.List.{List}
-use mathlib.Core.Bool.{Bool, true, false, cond}
-use mathlib.Core.Option.{none, some}
+use mathlib.Core.Bool.{true, false}
 use Prim.Native.Nat.{ℕ, _+_, _-_, _≤_, _<_}
 use native.Mathlib.Omega.{arith}
 use lib.ListN.{length, take, drop, length-drop}
 use borrow.Author.Tests.{lt-ltb, le-ltb}
 use Rattle.base.specs.Bytes.{no-quote, run}
 use Rattle.base.proofs.Runs.{run-part}
-use Rattle.machine.specs.Machine.{string, closed, string-from}
+use Rattle.machine.specs.Machine.{string, closed}
 
 -- e is the place of the next quote from q on, or the end where there is none
 module _ (text : List ℕ) (q e : ℕ) (run-ends : e ≡ q + length (run no-quote (drop q text))) where
@@ -24,19 +23,3 @@ module _ (text : List ℕ) (q e : ℕ) (run-ends : e ≡ q + length (run no-quot
   pub the-string : e < length text → take (e - q) (drop q text) ≡ string text q
   unfolding string
   the-string h = rw (run-part no-quote text q e run-ends)
-
--- a string that was found is the one that is there, and it is closed
-module _ (text : List ℕ) (q : ℕ) (bs : List ℕ) (e : string-from text q ≡ some bs) where
-  both : (closed text q ≡ true) × (string text q ≡ bs)
-  unfolding string-from
-  both = by (closed text q) refl e
-    where
-      by : (b : Bool) → closed text q ≡ b → cond b (some (string text q)) none ≡ some bs → (closed text q ≡ true) × (string text q ≡ bs)
-      by true h p = (h, cc)
-      by false h p = let z : _≡_ {A = ℕ} 0 1 = cc in absurd (omega arith)
-
-  pub found-closed : closed text q ≡ true
-  found-closed = both .0
-
-  pub found-string : string text q ≡ bs
-  found-string = both .1

@@ -44,9 +44,6 @@ string text s = B.run no-quote (drop s text)
 unfoldable pub closed : List ℕ → ℕ → Bool
 closed text s = ltb (length (string text s)) (length (drop s text))
 
-unfoldable pub string-from : List ℕ → ℕ → Option (List ℕ)
-string-from text s = cond (closed text s) (some (string text s)) none
-
 -- the next reading, if one is left
 unfoldable pub reading : List ℤ → Outside → Option ℤ
 reading readings o = getElem? readings (o .used)
@@ -195,12 +192,9 @@ pub record Report : Type 0 where
 unfoldable pub report : ℕ → End → Report
 report budget e = record { ending = e .ending; steps = budget - e .left; used = e .outside .used; output = e .outside .output }
 
-unfoldable pub bad-table : Report
-bad-table = record { ending = bad-code; steps = 0; used = 0; output = [] }
-
 -- a table of odd length is bad code, with all counts 0
 unfoldable pub whole-run : Lent → ℕ → Report
-whole-run lent budget = cond (eqb (length (lent .table) % 2) 0) (report budget (end-of (run lent budget fresh))) bad-table
+whole-run lent budget = cond (eqb (length (lent .table) % 2) 0) (report budget (end-of (run lent budget fresh))) (record { ending = bad-code; steps = 0; used = 0; output = [] })
 
 -- what a run leaves: the stack all zeros, and the room as it was past the output
 unfoldable pub stack-after : ℕ → List ℤ

@@ -11,10 +11,9 @@ use lib.ListN.{length, getD, drop}
 use borrow.Author.Tests.{lt-ltb}
 use Rattle.instruction.specs.Endings.{no-reading-left, print-does-not-fit}
 use Rattle.instruction.specs.Numbers.{Result, value, ends, Two-sided, in-range, calculate, is-false, negation, decimal}
-use Rattle.instruction.specs.Instructions.{Instruction, halt, push-int, load-stack, store-stack, jump, jump-if-false, two-sided, negate, not, read, print-int, print-str, print-str-ln, takes, gives}
-use Rattle.machine.specs.Machine.{Lent, Outside, Machine, string-from, reading, one-used, printed, Step, go, stop, pushed, left-with, jumped, resulting, taken, written, pairs, names-well, prints, does, tried, decoded, fetched, step, run, End, end-of}
+use Rattle.instruction.specs.Instructions.{Instruction, halt, push-int, load-stack, store-stack, jump, jump-if-false, two-sided, negate, not, read, print-int, print-str, print-str-ln, takes, gives, effect}
+use Rattle.machine.specs.Machine.{Lent, Outside, Machine, string, closed, reading, one-used, printed, Step, go, stop, pushed, left-with, jumped, resulting, taken, written, pairs, names-well, prints, does, tried, decoded, fetched, step, run, End, end-of}
 use Rattle.machine.proofs.Tried.{works}
-use Rattle.machine.proofs.Strings.{found-string, found-closed}
 use Rattle.meaning.specs.Meaning.{Store, Outcome, done, ended, Act, after, _>>=_, _>>_, give, end-with, unit, result, value-of, assigned, next-reading, write}
 use Rattle.meaning.proofs.Cells.{cells, deep, peek-below, poke-below}
 
@@ -44,7 +43,7 @@ module _ (lent : Lent) where
   passes i m k h l w f = sym (works lent i m k h l w f)
 
   pub halted : (h a : ℕ) (st : List ℤ) (o : Outside) → tried lent (halt h) (at a st o) ≡ stop h
-  unfolding takes gives names-well does
+  unfolding effect names-well does
   halted h a st o = passes (halt h) (at a st o) (length st) (omega arith) (omega arith) refl (omega arith)
 
   run-suc : (i : Instruction) (n a : ℕ) (st : List ℤ) (o : Outside) → fetched lent a ≡ some i → end-of (run lent (suc n) (at a st o)) ≡ continue (tried lent i (at (suc a) st o)) n o
@@ -109,15 +108,15 @@ module _ {lent : Lent} {d : ℕ} where
   goes-on p e = record { goes = λ m s K l k. rw (e (s .variables) (s .outside)) (unfold continue in p .leads m s K l k) }
 
   pub pushes : {A : Type 0} {N a c : ℕ} {ts : List ℤ} {f : Act A} {out : A → List ℤ} (v : ℤ) → length ts + d < lent .cells → Leads lent d N (suc a) (v ∷ ts) f c out → Does lent d N (push-int v) a ts f c out
-  unfolding takes gives names-well does pushed
+  unfolding effect names-well does pushed
   pushes {a = a} {ts = ts} v r p = goes-on p (λ g o. passes lent (push-int v) (at (suc a) (ts ++ cells d g) o) (length ts + d) (omega arith) (omega (arith, deep d ts g)) refl (omega (arith, deep d ts g)))
 
   pub loads : {N a : ℕ} {ts : List ℤ} (k : ℕ) → k < d → length ts + d < lent .cells → Does lent d N (load-stack k) a ts (value-of k) (suc a) (λ v. v ∷ ts)
-  unfolding takes gives names-well does pushed continue value-of finish
+  unfolding effect names-well does pushed continue value-of finish
   loads {a = a} {ts = ts} j h r = record { goes = λ m s K l k. rw (passes lent (load-stack j) (at (suc a) (ts ++ cells d (s .variables)) (s .outside)) (length ts + d) (omega arith) (omega (arith, deep d ts (s .variables))) (lt-ltb j (length ts + d) (omega arith)) (omega (arith, deep d ts (s .variables))), peek-below j (s .variables) d ts h) (k _ m s (le-refl m)) }
 
   pub stores : {N a : ℕ} {ts : List ℤ} (k : ℕ) (v : ℤ) → k < d → Does lent d N (store-stack k) a (v ∷ ts) (assigned k v) (suc a) (λ _. ts)
-  unfolding takes gives names-well does left-with continue assigned finish
+  unfolding effect names-well does left-with continue assigned finish
   stores {a = a} {ts = ts} j v h = record { goes = λ m s K l k. rw (passes lent (store-stack j) (at (suc a) (v ∷ (ts ++ cells d (s .variables))) (s .outside)) (length ts + d) (omega arith) (omega (arith, deep d ts (s .variables))) (lt-ltb j (length ts + d) (omega arith)) (omega arith), poke-below j (s .variables) v d ts h) (k tt m _ (le-refl m)) }
 
   pub results : {N : ℕ} {i : Instruction} {a : ℕ} {us : List ℤ} (ts : List ℤ) (r : Result) → ((g : ℕ → ℤ) (o : Outside) → tried lent i (at (suc a) (us ++ cells d g) o) ≡ resulting r (at (suc a) (ts ++ cells d g) o)) → Does lent d N i a us (result r) (suc a) (λ v. v ∷ ts)
@@ -127,15 +126,15 @@ module _ {lent : Lent} {d : ℕ} where
 
   -- an operator or relation takes both sides, and a minus its value
   pub calculates : {N a : ℕ} {ts : List ℤ} (t : Two-sided) (v w : ℤ) → Does lent d N (two-sided t) a (w ∷ v ∷ ts) (result (calculate t v w)) (suc a) (λ x. x ∷ ts)
-  unfolding takes gives names-well does
+  unfolding effect names-well does
   calculates {a = a} {ts = ts} t v w = results ts (calculate t v w) (λ g o. passes lent (two-sided t) (at (suc a) (w ∷ (v ∷ (ts ++ cells d g))) o) (length (ts ++ cells d g)) (omega arith) (omega arith) refl (omega arith))
 
   pub minuses : {N a : ℕ} {ts : List ℤ} (v : ℤ) → Does lent d N negate a (v ∷ ts) (result (in-range (negℤ v))) (suc a) (λ x. x ∷ ts)
-  unfolding takes gives names-well does
+  unfolding effect names-well does
   minuses {a = a} {ts = ts} v = results ts (in-range (negℤ v)) (λ g o. passes lent negate (at (suc a) (v ∷ (ts ++ cells d g)) o) (length (ts ++ cells d g)) (omega arith) (omega arith) refl (omega arith))
 
   pub negates : {N a : ℕ} {ts : List ℤ} (v : ℤ) → Does lent d N not a (v ∷ ts) (give (negation v)) (suc a) (λ w. w ∷ ts)
-  unfolding takes gives names-well does pushed
+  unfolding effect names-well does pushed
   negates {a = a} {ts = ts} v = goes-on (here (negation v) (λ w. w ∷ ts)) (λ g o. passes lent not (at (suc a) (v ∷ (ts ++ cells d g)) o) (length (ts ++ cells d g)) (omega arith) (omega arith) refl (omega arith))
 
   pub halts : {A : Type 0} {N a b : ℕ} {ts : List ℤ} {out : A → List ℤ} (h : ℕ) → Does lent d {A = A} N (halt h) a ts (end-with h) b out
@@ -153,21 +152,21 @@ module _ {lent : Lent} {d : ℕ} where
       by m s K k (some o) = k tt m (record { variables = s .variables; outside = o }) (le-refl m)
 
   pub prints-number : {N a : ℕ} {ts : List ℤ} (v : ℤ) → Does lent d N print-int a (v ∷ ts) (write (lent .readings) (lent .room) (decimal v)) (suc a) (λ _. ts)
-  unfolding takes gives names-well does
+  unfolding effect names-well does
   prints-number {a = a} {ts = ts} v = writes ts (decimal v) (λ g o. passes lent print-int (at (suc a) (v ∷ (ts ++ cells d g)) o) (length (ts ++ cells d g)) (omega arith) (omega arith) refl (omega arith))
 
-  pub prints-string : {N a : ℕ} {ts : List ℤ} (p : ℕ) (bs : List ℕ) → string-from (lent .text) p ≡ some bs → Does lent d N (print-str p) a ts (write (lent .readings) (lent .room) bs) (suc a) (λ _. ts)
-  unfolding takes gives names-well does
+  pub prints-string : {N a : ℕ} {ts : List ℤ} (p : ℕ) (bs : List ℕ) → (closed (lent .text) p ≡ true) × (string (lent .text) p ≡ bs) → Does lent d N (print-str p) a ts (write (lent .readings) (lent .room) bs) (suc a) (λ _. ts)
+  unfolding effect names-well does
   prints-string {a = a} {ts = ts} p bs e = writes ts bs (λ g o.
-      rw (← found-string (lent .text) p bs e) (passes lent (print-str p) (at (suc a) (ts ++ cells d g) o) (length (ts ++ cells d g)) (omega arith) (omega arith) (found-closed (lent .text) p bs e) (omega arith)))
+      rw (← e .1) (passes lent (print-str p) (at (suc a) (ts ++ cells d g) o) (length (ts ++ cells d g)) (omega arith) (omega arith) (e .0) (omega arith)))
 
-  pub prints-line : {N a : ℕ} {ts : List ℤ} (p : ℕ) (bs : List ℕ) → string-from (lent .text) p ≡ some bs → Does lent d N (print-str-ln p) a ts (write (lent .readings) (lent .room) (bs ++ 10 ∷ [])) (suc a) (λ _. ts)
-  unfolding takes gives names-well does
+  pub prints-line : {N a : ℕ} {ts : List ℤ} (p : ℕ) (bs : List ℕ) → (closed (lent .text) p ≡ true) × (string (lent .text) p ≡ bs) → Does lent d N (print-str-ln p) a ts (write (lent .readings) (lent .room) (bs ++ 10 ∷ [])) (suc a) (λ _. ts)
+  unfolding effect names-well does
   prints-line {a = a} {ts = ts} p bs e = writes ts (bs ++ 10 ∷ []) (λ g o.
-      rw (← found-string (lent .text) p bs e) (passes lent (print-str-ln p) (at (suc a) (ts ++ cells d g) o) (length (ts ++ cells d g)) (omega arith) (omega arith) (found-closed (lent .text) p bs e) (omega arith)))
+      rw (← e .1) (passes lent (print-str-ln p) (at (suc a) (ts ++ cells d g) o) (length (ts ++ cells d g)) (omega arith) (omega arith) (e .0) (omega arith)))
 
   pub reads : {B : Type 0} {N a c : ℕ} {ts : List ℤ} {f : ℤ → Act B} {out : B → List ℤ} → length ts + d < lent .cells → ((v : ℤ) → Leads lent d N (suc a) (v ∷ ts) (f v) c out) → Does lent d N read a ts (next-reading (lent .readings) (lent .room) >>= f) c out
-  unfolding takes gives names-well does taken continue next-reading end-with finish _>>=_ after
+  unfolding effect names-well does taken continue next-reading end-with finish _>>=_ after
   reads {B} {N} {a} {c} {ts} {f} {out} r p = record { goes = λ m s K l k. rw (passes lent read (at (suc a) (ts ++ cells d (s .variables)) (s .outside)) (length ts + d) (omega arith) (omega (arith, deep d ts (s .variables))) refl (omega (arith, deep d ts (s .variables)))) (by m s K l k (reading (lent .readings) (s .outside))) }
     where
       by : (m : ℕ) (s : Store) (K : B → ℕ → Store → End) → m < N → ((v : B) (l : ℕ) (t : Store) → l ≤ m → from lent d l c (out v) t ≡ K v l t) → (q : Option ℤ) →
@@ -178,12 +177,12 @@ module _ {lent : Lent} {d : ℕ} where
 
   -- the jumps
   pub jumps : {A : Type 0} {N a c : ℕ} {ts : List ℤ} {f : Act A} {out : A → List ℤ} (b : ℕ) → b < pairs lent → Leads lent d N b ts f c out → Does lent d N (jump b) a ts f c out
-  unfolding takes gives names-well does jumped
+  unfolding effect names-well does jumped
   jumps {a = a} {ts = ts} b h p = goes-on p (λ g o. passes lent (jump b) (at (suc a) (ts ++ cells d g) o) (length (ts ++ cells d g)) (omega arith) (omega arith) (lt-ltb b (pairs lent) h) (omega arith))
 
   pub chooses : {A : Type 0} {N a c : ℕ} {ts : List ℤ} {y z : Act A} {out : A → List ℤ} (v : ℤ) (b : ℕ) → b < pairs lent → Leads lent d N b ts y c out → Leads lent d N (suc a) ts z c out →
       Does lent d N (jump-if-false b) a (v ∷ ts) (elim (is-false v) as (λ _. Act A) [ true ↦ y | false ↦ z ]) c out
-  unfolding takes gives names-well does jumped
+  unfolding effect names-well does jumped
   chooses {A} {N} {a} {c} {ts} {y} {z} {out} v b h p q = record {
     goes = λ m s K l k.
         rw (passes lent (jump-if-false b) (at (suc a) (v ∷ (ts ++ cells d (s .variables))) (s .outside)) (length (ts ++ cells d (s .variables))) (omega arith) (omega arith) (lt-ltb b (pairs lent) h) (omega arith)) (by m s K l k (is-false v));

@@ -8,7 +8,7 @@ use lib.IntN.{ℤ, pos}
 use lib.ListN.{replicate, length-replicate}
 use Rattle.sentence.specs.Sentences.{Sen, command}
 use Rattle.instruction.specs.Endings.{normal}
-use Rattle.instruction.specs.Instructions.{halt, push-int, numbers, takes, gives}
+use Rattle.instruction.specs.Instructions.{halt, push-int, numbers, effect}
 use Rattle.machine.specs.Machine.{Lent, untouched, fresh, pushed, pairs, names-well, does, run, End, end-of, report, whole-run}
 use Rattle.machine.proofs.Tried.{works}
 use Rattle.machine.proofs.Pairs.{even, pairs-are, fetched-is}
@@ -40,7 +40,7 @@ module _ (lent : Lent) (d : ℕ) where
   -- k declarations are to come, after j
   opened : d ≤ lent .cells → (k j n : ℕ) → j + k ≡ d → Holds lent j (replicate k (push-int (pos 0))) → (K : Unit {0} → ℕ → Store → End) → ((l : ℕ) → end-of (run lent l (at d (cells d zeros) untouched)) ≡ K tt l start) →
       end-of (run lent n (at j (cells j zeros) untouched)) ≡ finish (declarations (lent .readings) (lent .room) k n start) K
-  unfolding declarations Holds takes gives names-well does pushed continue cells
+  unfolding declarations Holds effect names-well does pushed continue cells
   opened c zero j n e h K next = let q : j ≡ d = omega arith in rw q (unfold give finish in next n)
   opened c (suc k) j n e h K next = unit-step lent (push-int (pos 0)) j n (cells j zeros) start (declarations (lent .readings) (lent .room) k) K (h .0)
       (λ m l. rw (← works lent (push-int (pos 0)) (at (suc j) (cells j zeros) untouched) j (omega arith) (omega (arith, length-cells j zeros)) refl (omega (arith, length-cells j zeros))) (opened c k (suc j) m (omega arith) (h .1) K next))

@@ -33,8 +33,8 @@ returns c =
     Reader.depth Reader.is Reader.on Reader.on-lit Reader.on-name Reader.on-string Reader.on-sign Reader.on-mul Reader.on-rel Reader.got-factor Reader.at-factor Reader.at-expression Reader.at-condition Reader.at-command Reader.at-command-or-brace Reader.after-command Reader.after-condition Reader.whole-expression Reader.after-expression Reader.whole-term Reader.after-term Reader.step Reader.verdict Reader.read-from Reader.read
     Names._>>=_ Names.give Names.look-up Names.used Names.one-more Names.declared-here Names.opened Names.closed Names.scoped Names.resolve Names.resolved
     Numbers.in-range Numbers.is-false Numbers.truth Numbers.calculate Numbers.negation Numbers.digits Numbers.decimal
-    Instructions.alone Instructions.natural Instructions.halting Instructions.opcode Instructions.operation Instructions.decode Instructions.number Instructions.encode Instructions.numbers Instructions.takes Instructions.gives
-    Machine.string Machine.closed Machine.string-from Machine.reading Machine.one-used Machine.printed Machine.peek Machine.poke Machine.pushed Machine.left-with Machine.jumped Machine.resulting Machine.taken Machine.written Machine.pairs Machine.names-well Machine.prints Machine.does Machine.tried Machine.decoded Machine.fetched Machine.step Machine.run Machine.report Machine.bad-table Machine.whole-run Machine.stack-after Machine.room-after
+    Instructions.alone Instructions.natural Instructions.halting Instructions.opcode Instructions.operation Instructions.decode Instructions.number Instructions.encode Instructions.numbers Instructions.effect
+    Machine.string Machine.closed Machine.reading Machine.one-used Machine.printed Machine.peek Machine.poke Machine.pushed Machine.left-with Machine.jumped Machine.resulting Machine.taken Machine.written Machine.pairs Machine.names-well Machine.prints Machine.does Machine.tried Machine.decoded Machine.fetched Machine.step Machine.run Machine.report Machine.whole-run Machine.stack-after Machine.room-after
     Meaning.after Meaning._>>=_ Meaning._>>_ Meaning.give Meaning.end-with Meaning.unit Meaning.result Meaning.value-of Meaning.assigned Meaning.signed-value Meaning.rounds Meaning.next-reading Meaning.write Meaning.mean Meaning.declarations Meaning.program Meaning.meaning
     Layout.code Layout.program-code Layout.need Layout.program-need
     Compiled.code-of-text Compiled.need-of Compiled.over-cells Measured.at-most Measured.measured Judging.short-enough Judging.judged Judging.compiled Kit.worked-out

@@ -6,7 +6,7 @@ use denote.Ref.{now}
 use mir.Syntax.{w32}
 use mir.Facts.{toZ-ofZ}
 use Rattle.base.specs.Rooms.{said}
-use Rattle.instruction.specs.Instructions.{print-int, takes, gives}
+use Rattle.instruction.specs.Instructions.{print-int, effect}
 use Rattle.instruction.proofs.Buffers.{buffer-size, end-part}
 use Rattle.machine.specs.Machine.{names-well, does, tried}
 use Rattle.machine.proofs.Cells.{live-first}
@@ -16,14 +16,14 @@ use Rattle.machine.proofs.print.print_int.Statement.{statement}
 use Rattle.machine.proofs.print.print_int.Tie as tie
 
 returns : tie.Need-returns
-unfolding takes
+unfolding effect
 returns c = λ lent before g. stops g (tried lent print-int) 8 (few g print-int (c .if1 .taken))
 
 part-write-end : tie.Need-part-write-end
 part-write-end c = omega (arith, buffer-size (c .before .before .put-decimal .ensures))
 
 returns-2 : tie.Need-returns-2
-unfolding said takes gives names-well does
+unfolding said effect names-well does
 returns-2 c = λ lent before g.
     let put = rw (toZ-ofZ {w = w32} (record { sfits = c .before .before .before .before .before .before .before .before .before .put-decimal-arg .given })) at (c .before .before .before .before .before .before .before .put-decimal .ensures) in
     also (c .before .before .write .ensures lent (now (c .before .before .before .before .before .before .before .before .before .before .before .before .args .stack)) before (rw (c .before .before .before .before .before .before .moved .ensures) (record { deep = omega arith; stack = g .stack; within = g .within; size = g .size; past = g .past; whole = g .whole })))

@@ -4,7 +4,7 @@ use native.Mathlib.Omega.{arith}
 use borrow.Author.Tests.{le-ltb}
 use mir.Syntax.{w32}
 use mir.Facts.{toZ-ofZ}
-use Rattle.instruction.specs.Instructions.{load-stack, takes}
+use Rattle.instruction.specs.Instructions.{load-stack, effect}
 use Rattle.machine.specs.Machine.{names-well, tried}
 use Rattle.machine.proofs.Steps.{stops, misnamed, loads, also}
 use borrow.Author.Needs.{needs}
@@ -12,7 +12,7 @@ use Rattle.machine.proofs.stack.load_stack.Statement.{statement}
 use Rattle.machine.proofs.stack.load_stack.Tie as tie
 
 returns : tie.Need-returns
-unfolding takes names-well
+unfolding effect names-well
 returns c = λ lent room before g. stops g (tried lent (load-stack (c .before .before .args .k))) 8 (misnamed g (load-stack (c .before .before .args .k)) (c .before .before .args .s .depth) (omega arith) (sub-zero (c .before .before .args .s .depth)) (le-ltb (c .before .before .args .k) (c .before .before .args .s .depth) (c .if1 .taken)))
 
 returns-2 : tie.Need-returns-2

@@ -8,7 +8,7 @@ use lib.ListN.{getD}
 use mir.Syntax.{w32}
 use mir.Facts.{toZ-ofZ}
 use Rattle.instruction.specs.Numbers.{negation}
-use Rattle.instruction.specs.Instructions.{not, takes, gives}
+use Rattle.instruction.specs.Instructions.{not, effect}
 use Rattle.machine.specs.Machine.{names-well, pushed, does, tried}
 use Rattle.instruction.proofs.Signed.{zero-test}
 use Rattle.machine.proofs.Cells.{live-first}
@@ -18,11 +18,11 @@ use Rattle.machine.proofs.stack.not.Statement.{statement}
 use Rattle.machine.proofs.stack.not.Tie as tie
 
 returns : tie.Need-returns
-unfolding takes
+unfolding effect
 returns c = λ lent room before g. stops g (tried lent not) 8 (few g not (c .if1 .taken))
 
 returns-2 : tie.Need-returns-2
-unfolding takes gives names-well pushed does negation
+unfolding effect names-well pushed does negation
 returns-2 c = λ lent room before g.
     let x = getD (now (c .before .before .before .before .args .stack)) (c .before .before .before .before .args .s .depth - 1) (pos 0) in
     rw (c .push .ensures, toZ-ofZ {w = w32} (record { sfits = c .before .truth .ok }), c .before .truth .ensures, zero-test x (record { sfits = c .before .before .truth-arg .given }))

@@ -9,7 +9,7 @@ use lib.ListN.{getD, getElem?}
 use denote.Ref.{now}
 use mir.Syntax.{w32}
 use mir.Facts.{toZ-ofZ}
-use Rattle.instruction.specs.Instructions.{read, takes, gives}
+use Rattle.instruction.specs.Instructions.{read, effect}
 use Rattle.machine.specs.Machine.{Machine, pushed, taken, reading, one-used, names-well, does, tried}
 use Rattle.machine.proofs.Steps.{stops, full, works, also, does-push, no-more, one-more}
 use borrow.Author.Needs.{needs}
@@ -17,17 +17,17 @@ use Rattle.machine.proofs.stack.read.Statement.{statement}
 use Rattle.machine.proofs.stack.read.Tie as tie
 
 returns : tie.Need-returns
-unfolding takes gives names-well
+unfolding effect names-well
 returns c = λ lent e room before g. stops g (tried lent read) 6 (full g read (c .before .args .s .depth) (omega arith) (sub-zero (c .before .args .s .depth)) refl (omega (arith, c .if1 .taken)))
 
 returns-2 : tie.Need-returns-2
-unfolding takes gives names-well does taken reading
+unfolding effect names-well does taken reading
 returns-2 c = λ lent e room before g.
     let r : getElem? (lent .readings) (c .before .before .args .s .used) ≡ none = rw (← e) (no-more (now (c .before .before .args .readings)) (c .before .before .args .s .used) (c .if2 .taken)) in
     stops g (tried lent read) 3 (rw r at (works g read (c .before .before .args .s .depth) (omega arith) (sub-zero (c .before .before .args .s .depth)) refl (omega (arith, c .before .if1 .left)) refl refl))
 
 returns-3 : tie.Need-returns-3
-unfolding takes gives names-well does taken reading one-used pushed
+unfolding effect names-well does taken reading one-used pushed
 returns-3 c = λ lent e room before g.
     let v = getD (now (c .before .before .before .before .args .readings)) (c .before .before .before .before .args .s .used) (pos 0) in
     let r : getElem? (lent .readings) (c .before .before .before .before .args .s .used) ≡ some (getD (now (c .before .before .before .before .args .readings)) (c .before .before .before .before .args .s .used) (pos 0)) = rw (← e) (one-more (now (c .before .before .before .before .args .readings)) (c .before .before .before .before .args .s .used) (c .before .before .if2 .left)) in

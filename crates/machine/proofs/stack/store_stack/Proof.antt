@@ -8,7 +8,7 @@ use lib.IntN.{pos}
 use lib.ListN.{getD}
 use mir.Syntax.{w32}
 use mir.Facts.{toZ-ofZ}
-use Rattle.instruction.specs.Instructions.{store-stack, takes, gives}
+use Rattle.instruction.specs.Instructions.{store-stack, effect}
 use Rattle.machine.specs.Machine.{names-well, left-with, does, tried}
 use Rattle.machine.proofs.Cells.{live-first, poke-live}
 use Rattle.machine.proofs.Steps.{stops, sets, few, misnamed, works}
@@ -17,15 +17,15 @@ use Rattle.machine.proofs.stack.store_stack.Statement.{statement}
 use Rattle.machine.proofs.stack.store_stack.Tie as tie
 
 returns : tie.Need-returns
-unfolding takes
+unfolding effect
 returns c = λ lent room before g. stops g (tried lent (store-stack (c .before .args .k))) 8 (few g (store-stack (c .before .args .k)) (c .if1 .taken))
 
 returns-2 : tie.Need-returns-2
-unfolding takes names-well
+unfolding effect names-well
 returns-2 c = λ lent room before g. stops g (tried lent (store-stack (c .before .before .args .k))) 8 (misnamed g (store-stack (c .before .before .args .k)) (c .before .before .args .s .depth - 1) (c .before .if1 .left) refl (le-ltb (c .before .before .args .k) (c .before .before .args .s .depth - 1) (c .if2 .taken)))
 
 returns-3 : tie.Need-returns-3
-unfolding takes gives names-well does left-with
+unfolding effect names-well does left-with
 returns-3 c = λ lent room before g.
     let d = c .before .before .before .before .args .s .depth - 1 in
     let cells = now (c .before .before .before .before .args .stack) in

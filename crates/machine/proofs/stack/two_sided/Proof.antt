@@ -8,7 +8,7 @@ use lib.ListN.{getD}
 use mir.Syntax.{w32}
 use mir.Facts.{toZ-ofZ}
 use Rattle.instruction.specs.Numbers.{calculate}
-use Rattle.instruction.specs.Instructions.{two-sided, takes, gives}
+use Rattle.instruction.specs.Instructions.{two-sided, effect}
 use Rattle.machine.specs.Machine.{names-well, does, tried}
 use Rattle.instruction.specs.Coded.{as-result, as-two-sided}
 use Rattle.machine.proofs.Cells.{live-first, live-second}
@@ -18,11 +18,11 @@ use Rattle.machine.proofs.stack.two_sided.Statement.{statement}
 use Rattle.machine.proofs.stack.two_sided.Tie as tie
 
 returns : tie.Need-returns
-unfolding takes
+unfolding effect
 returns c = λ lent room before g. stops g (tried lent (two-sided (as-two-sided (c .before .args .k)))) 8 (few g (two-sided (as-two-sided (c .before .args .k))) (c .if1 .taken))
 
 returns-2 : tie.Need-returns-2
-unfolding takes gives names-well does
+unfolding effect names-well does
 returns-2 c = λ lent room before g.
     let cells = now (c .before .before .before .before .before .args .stack) in
     let d = c .before .before .before .before .before .args .s .depth in
