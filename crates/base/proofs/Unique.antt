@@ -2,7 +2,7 @@
 use mathlib.Core.Path.{_≡_, sym, _∙_}
 use mathlib.Core.List.{List}
 use Prim.Native.Nat.{ℕ}
-use Rattle.base.specs.Rooms.{Prints}
+use Rattle.base.specs.inner.Rooms.{Prints}
 use Rattle.base.specs.declared.Printed.{Printed}
 
 pub one : {A : Type 0} {is r r′ : A} → r ≡ is → r′ ≡ is → r ≡ r′

@@ -10,7 +10,8 @@ use lib.Dec.{eqb}
 use lib.ListN.{length, getD, take, drop, length-drop, drop-of-length-le}
 use lib.Seq.{drop-cons, take-all}
 use borrow.Author.Tests.{eq-eqb, ne-eqb}
-use Rattle.base.specs.Bytes.{same, value, part}
+use Rattle.base.specs.Bytes.{same, value}
+use Rattle.base.specs.inner.Parts.{part}
 
 -- two words after the test of their first bytes
 abbrev after : List ℕ → List ℕ → Bool → Bool

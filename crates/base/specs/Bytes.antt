@@ -5,7 +5,6 @@ use Prim.Native.Nat.{ℕ, zero, suc, _+_, _-_, _*_}
 use Prim.Native.String.{String, len, charAt}
 use Prim.Native.Char.{code}
 use lib.Dec.{leb, eqb}
-use lib.ListN.{take, drop}
 
 -- quoted text as bytes, so that tables can be read: bytes "DO" is 68 ∷ 79 ∷ []
 unfoldable pub bytes-from : ℕ → ℕ → String → List ℕ
@@ -67,7 +66,3 @@ same (a ∷ s) (b ∷ t) = elim (eqb a b) [ true ↦ same s t | false ↦ false 
 unfoldable pub value : ℕ → List ℕ → ℕ
 value n [] = n
 value n (b ∷ w) = value (n * 10 + (b - 48)) w
-
--- the bytes from the place p up to e
-unfoldable pub part : List ℕ → ℕ → ℕ → List ℕ
-part text p e = take (e - p) (drop p text)

@@ -1,4 +1,3 @@
 pub mod Answers
 pub mod Bytes
-pub mod Kinds
-pub mod Rooms
+pub mod inner

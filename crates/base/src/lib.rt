@@ -3,10 +3,11 @@ ghost use mathlib.Core.Path.{_≡_};
 ghost use Prim.Native.Nat.{_+_, _≤_, min};
 ghost use lib.IntN.{pos};
 ghost use lib.ListN.{length, drop, replicate};
-ghost use Rattle.base.specs.Bytes.{separator, letter, digit, run, begins, same, part};
+ghost use Rattle.base.specs.Bytes.{separator, letter, digit, run, begins, same};
+ghost use Rattle.base.specs.inner.Parts.{part};
 ghost use lib.Seq.{paste};
-ghost use Rattle.base.specs.Kinds.{such};
-ghost use Rattle.base.specs.Rooms.{said, Prints};
+ghost use Rattle.base.specs.inner.Kinds.{such};
+ghost use Rattle.base.specs.inner.Rooms.{said, Prints};
 ghost use Rattle.base.specs.Answers.{number};
 
 // Why a text is refused: document 01, "Refused texts".

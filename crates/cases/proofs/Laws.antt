@@ -11,7 +11,8 @@ use lib.Dec.{eqb}
 use lib.ListN.{length, getD, set, take, drop, length-drop, drop-of-length-le}
 use lib.Seq.{drop-cons, drop-drop, drop-set-lt, take-suc-set, take-all}
 use mir.Val.{boolByte}
-use Rattle.base.specs.Bytes.{run, part}
+use Rattle.base.specs.Bytes.{run}
+use Rattle.base.specs.inner.Parts.{part}
 use Rattle.base.proofs.Runs.{run-fits, run-part}
 use Rattle.cases.specs.Cases.{no-mark, marks, nth, meant, worth}
 

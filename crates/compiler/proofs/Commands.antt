@@ -14,7 +14,7 @@ use Rattle.base.specs.declared.Refusal.{Refusal}
 use Rattle.base.specs.declared.Refusal.the-variants.{NoProgram, TooDeep}
 use Rattle.base.specs.Answers.{given, refused}
 use Rattle.lexeme.specs.Lexemes.{Name, Lexeme, Fixed, Placed, next, fixed, end, open-brace, close-brace, becomes, DO, ERROR, IF, INT, PRINTI, PRINTLNS, PRINTS, READ, THEN, WHILE}
-use Rattle.lexeme.specs.Coded.{code-of, coded, fixed-number, told, Ends, Stands, Ahead}
+use Rattle.lexeme.specs.inner.Coded.{code-of, coded, fixed-number, told, Ends, Stands, Ahead}
 use Rattle.lexeme.specs.declared.Kind.the-variants as kind
 use Rattle.lexeme.specs.declared.Found.the-variants as reply
 use Rattle.lexeme.specs.declared.Lexeme as code
@@ -23,8 +23,8 @@ use Rattle.sentence.proofs.Reader.{Around, depth, in-print, in-assign, in-while
 use Rattle.sentence.proofs.Operators.{either}
 use Rattle.compiler.specs.declared.walk.Walk.{Walk}
 use Rattle.compiler.specs.declared.walk.Read.the-variants.{Refused}
-use Rattle.compiler.specs.Steps.{Follows, Expects, has-body, before-body}
-use Rattle.compiler.specs.Walks.{name-of, want-quoted, want-guarded, want-nested}
+use Rattle.compiler.specs.inner.Steps.{Follows, Expects, has-body, before-body}
+use Rattle.compiler.specs.inner.Walks.{name-of, want-quoted, want-guarded, want-nested}
 use Rattle.compiler.proofs.Lays.{quoted, guarded}
 use Rattle.compiler.proofs.Looked.{quoted-of, going, name-goes, string-goes, told-name, told-string, told-fixed, no-fixed, no-name, no-string}
 use Rattle.compiler.proofs.Reading.{from-via, ended, Comes, Stuck, comes-on, comes-stuck, comes-within, stuck-within, alike, onward, none, too-deep, lost, Way, Passed, Barred, comes, passes, stuck, refuses, Leads, leads, begins-with, refuses-within, Met, unmet, stays, crosses}

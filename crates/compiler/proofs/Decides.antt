@@ -15,7 +15,7 @@ use Rattle.base.specs.declared.Refusal.the-variants.{TooLong, TooMuchCode}
 use Rattle.base.specs.Answers as A
 use Rattle.base.specs.Answers.{given, refused, pass}
 use Rattle.lexeme.specs.Lexemes.{Name, Placed, Sizes, lexemes}
-use Rattle.lexeme.specs.Coded.{scanned}
+use Rattle.lexeme.specs.inner.Coded.{scanned}
 use Rattle.lexeme.specs.declared.Lexeme.{Lexeme}
 use Rattle.lexeme.specs.declared.Found.{Found}
 use Rattle.lexeme.specs.declared.Found.the-variants as found
@@ -24,7 +24,7 @@ use Rattle.sentence.specs.Sentences.{Sen, command}
 use Rattle.sentence.proofs.Reader.{read}
 use Rattle.sentence.proofs.Refusals.{accepts}
 use Rattle.names.specs.Names.{Scope, Known, nothing-declared, resolved}
-use Rattle.names.specs.Held.{counts, room, scope-in}
+use Rattle.names.specs.inner.Held.{counts, room, scope-in}
 use Rattle.names.proofs.Held.{nothing-scope}
 use Rattle.instruction.specs.Instructions.{halt, push-int, encode}
 use Rattle.meaning.specs.Layout.{need, code, program-code, program-need}
@@ -42,11 +42,12 @@ use Rattle.tables.specs.declared.Answer.the-variants.{Accepted, Refused}
 use Rattle.compiler.specs.Answers.{answered, Compiles}
 use Rattle.compiler.specs.Compiled as C
 use Rattle.compiler.specs.Compiled.{code-of-text, need-of, over-cells, Lexed, Judged, too-long, no-lexemes, accepted, Compiled, no-code, no-room, fits, With-answer, table-after}
-use Rattle.compiler.specs.Measured.{at-most, measured, Measured, Written}
-use Rattle.compiler.specs.Steps.{start-at}
-use Rattle.tables.specs.Settled.{settled-by}
-use Rattle.tables.specs.Tables.{put, emit, opening, filled}
-use Rattle.compiler.specs.Walks.{standing, stand, named, scope-of, Laid, spare, Lays, Set-out, Counted, From-start, Reads-program}
+use Rattle.compiler.specs.inner.Measured.{at-most, measured, Measured, Written}
+use Rattle.compiler.specs.inner.Steps.{start-at}
+use Rattle.tables.specs.inner.Settled.{settled-by}
+use Rattle.tables.specs.inner.Tables.{put, emit, opening}
+use Rattle.tables.specs.Filled.{filled}
+use Rattle.compiler.specs.inner.Walks.{standing, stand, named, scope-of, Laid, spare, Lays, Set-out, Counted, From-start, Reads-program}
 use Rattle.tables.proofs.Emits.{emit-append, emit-one}
 use Rattle.compiler.proofs.Emits.{emit-code}
 use Rattle.tables.proofs.Filled.{filled-by-code}

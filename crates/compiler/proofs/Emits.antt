@@ -3,16 +3,16 @@ use mathlib.Core.Path.{_≡_, refl, ap, _∙_}
 use mathlib.Core.List.{List, _++_}
 use Prim.Native.Nat.{ℕ, _+_}
 use lib.IntN.{ℤ}
-use Rattle.lexeme.specs.Coded.{kind-of, fixed-number, code-of}
+use Rattle.lexeme.specs.inner.Coded.{kind-of, fixed-number, code-of}
 use Rattle.sentence.proofs.Operators.{number-of}
 use Rattle.sentence.specs.Sentences.{Sign, plus, minus, Mul, times, over, Rel, less, greater, equal, sign, mul, rel, Kind, Sen}
 use Rattle.instruction.specs.Instructions.{Instruction, number}
-use Rattle.tables.specs.Tables.{emit}
+use Rattle.tables.specs.inner.Tables.{emit}
 use Rattle.tables.proofs.Emits.{emit-append}
 use Rattle.meaning.specs.Layout.{of-mul, of-sign, of-rel, code}
 use Rattle.meaning.proofs.Sizes.{size}
 use Rattle.meaning.proofs.Laid.{laid}
-use Rattle.compiler.specs.Steps.{operation-number}
+use Rattle.compiler.specs.inner.Steps.{operation-number}
 
 -- what follows a sentence's code
 pub emit-code : {k : Kind} (table : List ℤ) (a : ℕ) (y : Sen ℕ k) (is : List Instruction) → emit table a (code a y ++ is) ≡ emit (emit table a (code a y)) (a + size y) is

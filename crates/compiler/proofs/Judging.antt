@@ -16,7 +16,7 @@ use Rattle.sentence.specs.Sentences.{Sen, command}
 use Rattle.sentence.proofs.Reader.{read}
 use Rattle.sentence.proofs.Refusals.{accepts, refuses}
 use Rattle.compiler.specs.Compiled.{Accepted, code-of-text, over-cells, Lexed, Parsed, Named, Judged, too-long, no-lexemes, no-program, not-named, too-much-code, accepted, Compiled, no-code, no-room, fits, With-answer}
-use Rattle.compiler.specs.Measured.{at-most, measured}
+use Rattle.compiler.specs.inner.Measured.{at-most, measured}
 
 unfoldable pub short-enough : ℕ → List ℕ → Answer (Unit {0})
 short-enough limit text = cond (ltb limit (length text)) (refused TooLong 0) (given tt)

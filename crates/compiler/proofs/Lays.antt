@@ -10,12 +10,12 @@ use lib.ListN.{length}
 use Rattle.base.specs.declared.Refusal.{Refusal}
 use Rattle.base.specs.Answers.{Answer, given, refused, pass}
 use Rattle.lexeme.specs.Lexemes.{Name, Quoted}
-use Rattle.lexeme.specs.Coded.{Stands}
+use Rattle.lexeme.specs.inner.Coded.{Stands}
 use Rattle.lexeme.specs.declared.Lexeme.{Lexeme}
 use Rattle.sentence.specs.Sentences.{Sign, plus, minus, Mul, Rel, sign, mul, rel, Kind, Sen, factor, term, expression, condition, command, commands, literal, bracket, first, multiply, unsigned, signed, add, negated, compare, print, print-line, print-string, error, while, when, single, then}
 use Rattle.sentence.proofs.Operators.{number-of}
 use Rattle.names.specs.Names.{Scope, Known, Naming, _>>=_, give, resolve}
-use Rattle.names.specs.Held.{room, Sound, Kept}
+use Rattle.names.specs.inner.Held.{room, Sound, Kept}
 use Rattle.names.proofs.Held.{kept-all, kept-then}
 use Rattle.instruction.specs.Numbers.{Two-sided}
 use Rattle.instruction.specs.Instructions.{Instruction, halt, push-int, jump, jump-if-false, two-sided, negate, not, print-int, print-str, print-str-ln, number, encode, opcode}
@@ -24,9 +24,9 @@ use Rattle.meaning.proofs.Sizes.{size}
 use Rattle.meaning.proofs.Laid.{code-multiply, code-add, code-compare, code-while, code-when, code-then}
 use Rattle.compiler.specs.declared.walk.Walk.{Walk}
 use Rattle.compiler.specs.declared.walk.Gives.{Gives}
-use Rattle.compiler.specs.Steps.{moved-to, one-instruction, printing-number, ended-walk, ended-table, operation-number}
-use Rattle.tables.specs.Tables.{put, emit}
-use Rattle.compiler.specs.Walks.{stand, named, scope-of, Laid, spare, Small, Lays, Ready}
+use Rattle.compiler.specs.inner.Steps.{moved-to, one-instruction, printing-number, ended-walk, ended-table, operation-number}
+use Rattle.tables.specs.inner.Tables.{put, emit}
+use Rattle.compiler.specs.inner.Walks.{stand, named, scope-of, Laid, spare, Small, Lays, Ready}
 use Rattle.tables.proofs.Emits.{emit-one, put-before}
 use Rattle.compiler.proofs.Emits.{emit-code, mul-operation, sign-operation, rel-operation}
 

@@ -6,16 +6,16 @@ use Prim.Native.Nat.{ℕ, _+_, _-_}
 use native.Mathlib.Omega.{arith}
 use lib.Dec.{T}
 use borrow.Author.Tests.{ne-eqb}
-use Rattle.base.specs.Bytes.{part}
+use Rattle.base.specs.inner.Parts.{part}
 use Rattle.lexeme.specs.Lexemes.{Name, Lexeme, Quoted, Fixed, lit, name, string, fixed}
-use Rattle.lexeme.specs.Coded.{code-of, fixed-number, what-of, told, Ends, Stands}
+use Rattle.lexeme.specs.inner.Coded.{code-of, fixed-number, what-of, told, Ends, Stands}
 use Rattle.lexeme.specs.declared.Kind.{Kind}
 use Rattle.lexeme.specs.declared.Kind.the-variants as kind
 use Rattle.lexeme.specs.declared.Lexeme as code
 use Rattle.sentence.specs.Sentences.{Sign, Mul, Rel, sign, mul, rel}
 use Rattle.sentence.proofs.Reader.{State, is, on-lit, on-name, on-string, on-sign, on-mul, on-rel, is-sign, is-mul, is-rel}
 use Rattle.sentence.proofs.Operators.{number-of, is-number, numbered, sign-of, sign-numbered, on-a-sign, on-no-sign, mul-of, mul-numbered, on-a-mul, on-no-mul, rel-of, rel-numbered, on-a-rel, on-no-rel}
-use Rattle.compiler.specs.Walks.{name-of}
+use Rattle.compiler.specs.inner.Walks.{name-of}
 
 -- the string of the code's lexeme l
 unfoldable pub quoted-of : List ℕ → code.Lexeme → Quoted

@@ -10,7 +10,7 @@ use lib.IntN.{ℤ, pos}
 use borrow.Author.Tests.{lt-ltb, ltb-true, ltb-false}
 use Rattle.base.specs.declared.Refusal.the-variants.{Undeclared, TooManyDeclared}
 use Rattle.base.specs.Answers.{Answer, given, pass}
-use Rattle.base.specs.Bytes.{part}
+use Rattle.base.specs.inner.Parts.{part}
 use Rattle.lexeme.specs.Lexemes.{Name}
 use Rattle.lexeme.specs.declared.Lexeme.{Lexeme}
 use Rattle.sentence.specs.Sentences.{Kind, Sen, expression, commands, variable, declare, input, assign, block}
@@ -19,7 +19,7 @@ use Rattle.names.specs.Names.{Known, Naming, used, declared-here, opened, close
 use Rattle.names.specs.declared.Scope as held
 use Rattle.names.specs.declared.Cell.{Cell}
 use Rattle.names.specs.declared.Cell.the-variants.{At, Nowhere}
-use Rattle.names.specs.Held.{counts, room, scope-in, declared-in, opened-in, closed-in, Sound}
+use Rattle.names.specs.inner.Held.{counts, room, scope-in, declared-in, opened-in, closed-in, Sound}
 use Rattle.names.proofs.Held.{used-at, used-nowhere, found-low, kept-all, declared-kept, declared-sound, declared-given, declared-too-many, opened-counts, opened-long, opened-scope-in, opened-sound, closed-kept, closed-sound, closed-scope-in}
 use Rattle.instruction.specs.Instructions.{Instruction, push-int, load-stack, store-stack, read, encode}
 use Rattle.meaning.specs.Layout.{code, need}
@@ -28,9 +28,9 @@ use Rattle.compiler.specs.declared.walk.Walk.{Walk}
 use Rattle.compiler.specs.declared.walk.Gives.{Gives}
 use Rattle.tables.specs.declared.NameFault.{NameFault}
 use Rattle.tables.specs.declared.NameFault.the-variants.{Nothing, Is}
-use Rattle.compiler.specs.Steps.{moved-to, one-instruction, first-fault, faulted-walk, cell-of, noted-walk, cell-number, declared-walk}
-use Rattle.tables.specs.Tables.{put, operand-of, emit}
-use Rattle.compiler.specs.Walks.{standing, stand, Laid, spare, Lays, Ready, name-of}
+use Rattle.compiler.specs.inner.Steps.{moved-to, one-instruction, first-fault, faulted-walk, cell-of, noted-walk, cell-number, declared-walk}
+use Rattle.tables.specs.inner.Tables.{put, operand-of, emit}
+use Rattle.compiler.specs.inner.Walks.{standing, stand, Laid, spare, Lays, Ready, name-of}
 use Rattle.tables.proofs.Emits.{emit-one}
 use Rattle.compiler.proofs.Lays.{Agrees, gives, refuses, never, agrees-one, agrees-two, agrees, lays, laid-more}
 

@@ -9,7 +9,7 @@ use borrow.Author.Tests.{lt-ltb}
 use Rattle.base.specs.declared.Refusal.{Refusal}
 use Rattle.base.specs.declared.Refusal.the-variants.{NoProgram, TooDeep}
 use Rattle.lexeme.specs.Lexemes.{Name, Lexeme, next, open-round, close-round, NOT}
-use Rattle.lexeme.specs.Coded.{code-of, coded, fixed-number, Ends, Stands}
+use Rattle.lexeme.specs.inner.Coded.{code-of, coded, fixed-number, Ends, Stands}
 use Rattle.lexeme.specs.declared.Found.the-variants as reply
 use Rattle.lexeme.specs.declared.Kind.the-variants as kind
 use Rattle.lexeme.specs.declared.Lexeme as code
@@ -18,9 +18,9 @@ use Rattle.sentence.proofs.Reader.{Around, depth, in-first, in-multiply, in-uns
 use Rattle.sentence.proofs.Walk.{factor-open}
 use Rattle.compiler.specs.declared.walk.Walk.{Walk}
 use Rattle.compiler.specs.declared.walk.Read.the-variants.{Refused}
-use Rattle.compiler.specs.Steps.{Follows, Expects}
-use Rattle.tables.specs.Tables.{operand-of}
-use Rattle.compiler.specs.Walks.{name-of}
+use Rattle.compiler.specs.inner.Steps.{Follows, Expects}
+use Rattle.tables.specs.inner.Tables.{operand-of}
+use Rattle.compiler.specs.inner.Walks.{name-of}
 use Rattle.compiler.proofs.Looked.{going, literal-goes, name-goes, told-literal, told-name, told-fixed, no-fixed, no-lit, no-name, signs, muls, rels, Is-one, is-none}
 use Rattle.compiler.proofs.Reading.{Comes, comes-on, comes-stuck, comes-within, alike, onward, onward-number, none, too-deep, lost, Way, Passed, Barred, comes, passes, stuck, stuck-within, refuses, Leads, leads, begins-with, refuses-within, Met, unmet, stays, crosses}
 

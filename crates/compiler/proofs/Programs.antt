@@ -10,7 +10,7 @@ use lib.ListN.{length, getD, replicate}
 use Rattle.base.specs.declared.Refusal.{Refusal}
 use Rattle.base.specs.declared.Refusal.the-variants.{NoProgram}
 use Rattle.lexeme.specs.Lexemes.{Placed, DO, end}
-use Rattle.lexeme.specs.Coded.{code-of, fixed-number, Ahead}
+use Rattle.lexeme.specs.inner.Coded.{code-of, fixed-number, Ahead}
 use Rattle.lexeme.specs.declared.Lexeme.{Lexeme}
 use Rattle.lexeme.proofs.Decoded.{number-fixed}
 use Rattle.names.proofs.Held.{nothing-sound}
@@ -18,8 +18,8 @@ use Rattle.compiler.specs.declared.walk.Walk.{Walk}
 use Rattle.compiler.specs.declared.walk.Gives.{Gives}
 use Rattle.compiler.specs.declared.walk.Read.{Read}
 use Rattle.compiler.specs.declared.walk.Read.the-variants.{Done, Refused}
-use Rattle.compiler.specs.Steps.{start-at, moved-to, Past, Advances, Expects}
-use Rattle.compiler.specs.Walks.{Lays, Ready, Reads-command, Set-out, From-start, Reads-program}
+use Rattle.compiler.specs.inner.Steps.{start-at, moved-to, Past, Advances, Expects}
+use Rattle.compiler.specs.inner.Walks.{Lays, Ready, Reads-command, Set-out, From-start, Reads-program}
 use Rattle.compiler.proofs.Reading.{Met, met}
 use Rattle.compiler.proofs.Commands.{command-way, program-read, program-unended, program-refused, no-program}
 use Rattle.compiler.proofs.Replies.{Got, got, barred, past, unread, ready-past}

@@ -12,7 +12,7 @@ use Rattle.base.specs.declared.Refusal.{Refusal}
 use Rattle.base.specs.declared.Refusal.the-variants.{NoProgram, TooDeep}
 use Rattle.base.specs.Answers.{Answer, given, refused}
 use Rattle.lexeme.specs.Lexemes.{Name, Lexeme, Fixed, Placed, next}
-use Rattle.lexeme.specs.Coded.{code-of, coded, fixed-number, told, placed, Ends, Stands, Number, Ahead}
+use Rattle.lexeme.specs.inner.Coded.{code-of, coded, fixed-number, told, placed, Ends, Stands, Number, Ahead}
 use Rattle.lexeme.specs.declared.Lexeme as code
 use Rattle.lexeme.specs.declared.Found.the-variants as reply
 use Rattle.lexeme.proofs.Ahead.{begins, not-ahead}
@@ -21,8 +21,8 @@ use Rattle.sentence.proofs.Reader.{Around, depth, State, whole, nowhere, is, st
 use Rattle.compiler.specs.declared.walk.Walk.{Walk}
 use Rattle.compiler.specs.declared.walk.Gives.{Gives}
 use Rattle.compiler.specs.declared.walk.Read.the-variants.{Done, Refused}
-use Rattle.compiler.specs.Steps.{Follows, Past, Advances, Expects}
-use Rattle.compiler.specs.Walks.{read-via, Passes, Refuses}
+use Rattle.compiler.specs.inner.Steps.{Follows, Past, Advances, Expects}
+use Rattle.compiler.specs.inner.Walks.{read-via, Passes, Refuses}
 use Rattle.compiler.proofs.Looked.{going, no-fixed}
 
 -- ---- one lexeme

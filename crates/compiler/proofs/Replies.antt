@@ -9,7 +9,7 @@ use lib.IntN.{ℤ, pos}
 use lib.ListN.{length}
 use Rattle.base.specs.declared.Refusal.{Refusal}
 use Rattle.lexeme.specs.Lexemes.{Name, Lexeme, next}
-use Rattle.lexeme.specs.Coded.{coded, fixed-number}
+use Rattle.lexeme.specs.inner.Coded.{coded, fixed-number}
 use Rattle.lexeme.specs.declared.Lexeme as code
 use Rattle.lexeme.specs.declared.Found.the-variants as reply
 use Rattle.sentence.specs.Sentences.{Kind, Sen, multiply, add, compare}
@@ -18,9 +18,9 @@ use Rattle.compiler.specs.declared.walk.Walk.{Walk}
 use Rattle.compiler.specs.declared.walk.Gives.{Gives}
 use Rattle.compiler.specs.declared.walk.Read.{Read}
 use Rattle.compiler.specs.declared.walk.Read.the-variants.{Done, Refused}
-use Rattle.compiler.specs.Steps.{moved-to, one-instruction, Fits, put-after, followed-by, joined-walk, operation-number, Follows, Past, Advances, Expects}
-use Rattle.tables.specs.Tables.{put}
-use Rattle.compiler.specs.Walks.{Lays, Ready, Reads}
+use Rattle.compiler.specs.inner.Steps.{moved-to, one-instruction, Fits, put-after, followed-by, joined-walk, operation-number, Follows, Past, Advances, Expects}
+use Rattle.tables.specs.inner.Tables.{put}
+use Rattle.compiler.specs.inner.Walks.{Lays, Ready, Reads}
 use Rattle.tables.proofs.Emits.{length-put}
 use Rattle.compiler.proofs.Looked.{Sort, signs, muls, rels, Is-one, is-one}
 use Rattle.compiler.proofs.Reading.{Way, Passed, Barred, Leads}

@@ -13,7 +13,7 @@ use Rattle.sentence.specs.Sentences.{Sen, command}
 use Rattle.sentence.specs.Grammar.{whats, Whole, Shallow, Refused}
 use Rattle.names.specs.Names.{resolved}
 use Rattle.instruction.specs.Instructions.{Instruction, numbers}
-use Rattle.tables.specs.Tables.{filled}
+use Rattle.tables.specs.Filled.{filled}
 use Rattle.meaning.specs.Layout.{program-code, program-need}
 
 -- an accepted text: its Command over cells, and how many cells there are

@@ -1,5 +1,3 @@
 pub mod Compiled
 pub mod Answers
-pub mod Steps
-pub mod Walks
-pub mod Measured
+pub mod inner

@@ -2,9 +2,9 @@
 ghost use mathlib.Core.Path.{_≡_};
 ghost use mathlib.Core.Bool.{false};
 ghost use Prim.Native.Nat.{suc, _<_};
-ghost use Rattle.lexeme.specs.Coded.{code-of, fixed-number};
-ghost use Rattle.compiler.specs.Steps.{moved-to, printing-number, has-body, before-body, ended-walk, ended-table};
-ghost use Rattle.compiler.specs.Walks.{Ready, First, Reads-command, Reads-print, Reads-string, Reads-declare, Reads-read, Reads-assign, Reads-nested, Reads-guarded, Reads-block};
+ghost use Rattle.lexeme.specs.inner.Coded.{code-of, fixed-number};
+ghost use Rattle.compiler.specs.inner.Steps.{moved-to, printing-number, has-body, before-body, ended-walk, ended-table};
+ghost use Rattle.compiler.specs.inner.Walks.{Ready, First, Reads-command, Reads-print, Reads-string, Reads-declare, Reads-read, Reads-assign, Reads-nested, Reads-guarded, Reads-block};
 use crate::expression;
 use crate::naming;
 use crate::walk;

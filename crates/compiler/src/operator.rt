@@ -1,7 +1,7 @@
 // Operators and relations: which lexemes they are, and their operations.
 ghost use mathlib.Core.Path.{_≡_};
 ghost use Rattle.sentence.proofs.Reader.{is-sign, is-mul, is-rel};
-ghost use Rattle.compiler.specs.Steps.{operation-number};
+ghost use Rattle.compiler.specs.inner.Steps.{operation-number};
 use instruction::operations;
 
 pub fn is_sign(f: u8) -> bool

@@ -6,7 +6,7 @@ use Prim.Native.Nat.{ℕ}
 use lib.Dec.{ltb}
 use lib.IntN.{ℤ}
 use lib.ListN.{length}
-use Rattle.readings.specs.Rest.{takes, over}
+use Rattle.readings.specs.inner.Rest.{takes, over}
 use Rattle.readings.specs.declared.Reader.{Reader}
 use Rattle.input.specs.declared.Chunk.{Chunk}
 use Rattle.input.specs.declared.Chunk.the-variants.{Came, Failed}

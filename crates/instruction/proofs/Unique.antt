@@ -6,10 +6,10 @@ use mathlib.Core.Option.{Option, none, some}
 use Prim.Native.Nat.{ℕ}
 use native.Mathlib.Omega.{arith}
 use lib.Seq.{sets}
-use Rattle.instruction.specs.Buffers.{At-the-end}
+use Rattle.instruction.specs.inner.Buffers.{At-the-end}
 use Rattle.instruction.specs.Numbers.{Result, value, ends, Two-sided, plus, minus, times, divide, equals, smaller, greater}
 use Rattle.instruction.specs.Instructions.{Instruction, halt, push-int, load-stack, store-stack, jump, jump-if-false, two-sided, negate, not, read, print-int, print-str, print-str-ln}
-use Rattle.instruction.specs.Coded.{as-result, as-two-sided, as-instruction}
+use Rattle.instruction.specs.inner.Coded.{as-result, as-two-sided, as-instruction}
 use Rattle.instruction.specs.declared.arith.Calculated.{Calculated}
 use Rattle.instruction.specs.declared.arith.Calculated.the-variants.{Value, Ends}
 use Rattle.instruction.specs.declared.arith.Operator.{Operator}

@@ -1,5 +1,4 @@
-pub mod Buffers
 pub mod Endings
 pub mod Numbers
 pub mod Instructions
-pub mod Coded
+pub mod inner

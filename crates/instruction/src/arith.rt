@@ -3,7 +3,7 @@
 ghost use mathlib.Core.Path.{_≡_};
 ghost use lib.IntN.{negℤ, natAbs};
 ghost use Rattle.instruction.specs.Numbers.{in-range, calculate, truth, divide};
-ghost use Rattle.instruction.specs.Coded.{as-result, as-two-sided};
+ghost use Rattle.instruction.specs.inner.Coded.{as-result, as-two-sided};
 use super::endings;
 
 // Its negation is the one that leaves the range.

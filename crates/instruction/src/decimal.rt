@@ -1,6 +1,6 @@
 // The shortest decimal of a number, at the end of a buffer: it is written from its last digit, which comes first.
 ghost use lib.IntN.{pos};
-ghost use Rattle.instruction.specs.Buffers.{At-the-end};
+ghost use Rattle.instruction.specs.inner.Buffers.{At-the-end};
 ghost use Rattle.instruction.specs.Numbers.{decimal};
 use super::arith::distance;
 

@@ -4,7 +4,7 @@ ghost use mathlib.Core.Bool.{cond};
 ghost use mathlib.Core.Option.{none};
 ghost use Rattle.instruction.specs.Numbers.{is-false};
 ghost use Rattle.instruction.specs.Instructions.{halting, decode};
-ghost use Rattle.instruction.specs.Coded.{as-instruction};
+ghost use Rattle.instruction.specs.inner.Coded.{as-instruction};
 use super::arith::Operator;
 use super::operations;
 

@@ -14,7 +14,7 @@ use Rattle.instruction.proofs.Pairs.{length-numbers}
 use Rattle.machine.specs.Machine.{whole-run}
 use Rattle.machine.specs.Promise.{lends, Ran}
 use Rattle.machine.specs.declared.Report as Code
-use Rattle.tables.specs.Tables.{filled}
+use Rattle.tables.specs.Filled.{filled}
 use Rattle.tables.specs.declared.Answer.{Answer}
 use Rattle.tables.specs.declared.Answer.the-variants as answer
 use Rattle.tables.specs.declared.Counts.{Counts}

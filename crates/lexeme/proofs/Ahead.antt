@@ -9,7 +9,7 @@ use Rattle.base.specs.declared.Refusal.{Refusal}
 use Rattle.base.specs.Answers.{Answer, given, refused, pass}
 use Rattle.lexeme.specs.Lexemes as lexemes
 use Rattle.lexeme.specs.Lexemes.{lit, name, class, string, fixed, end, Placed, Next, lexeme, nothing, Sizes, next, too-large, lexemes-from, lexemes}
-use Rattle.lexeme.specs.Coded.{kind-of, coded, placed, Ends, Number, Ahead, last, more}
+use Rattle.lexeme.specs.inner.Coded.{kind-of, coded, placed, Ends, Number, Ahead, last, more}
 use Rattle.lexeme.specs.declared.Kind.the-variants as kind
 use borrow.Author.Tests.{ltb-false}
 use Rattle.lexeme.specs.declared.Lexeme.{Lexeme}

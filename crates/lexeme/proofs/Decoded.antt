@@ -4,7 +4,7 @@ use mathlib.Core.List.{List}
 use Prim.Native.Nat.{ℕ}
 use native.Mathlib.Omega.{arith}
 use Rattle.lexeme.specs.Lexemes.{symbols, keywords, fixed, Fixed, becomes, equals-sign, comma, dot, greater-sign, less-sign, plus-sign, minus-sign, star, slash, open-round, close-round, open-square, close-square, open-brace, close-brace, CALL, CLASS, DO, ERROR, FIELDS, IF, INIT, INT, METHOD, NOT, OBJ, PRINTI, PRINTLNS, PRINTS, PROCEDURE, READ, RETURNS, SUBCLASSOF, THEN, USING, WHILE, end}
-use Rattle.lexeme.specs.Coded.{code-of, fixeds, fixed-in, fixed-of, fixed-number, what-of, told}
+use Rattle.lexeme.specs.inner.Coded.{code-of, fixeds, fixed-in, fixed-of, fixed-number, what-of, told}
 use Rattle.lexeme.specs.declared.Kind.{Kind}
 use Rattle.lexeme.specs.declared.Kind.the-variants as kind
 use Rattle.lexeme.specs.declared.Lexeme.{Lexeme}

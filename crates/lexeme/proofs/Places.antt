@@ -12,11 +12,12 @@ use lib.ListN.{length, getD, drop, drop-of-length-le, length-drop}
 use lib.Seq.{drop-cons, length-take-le}
 use Rattle.base.specs.declared.Refusal.{Refusal}
 use Rattle.base.specs.Answers.{Answer, given, refused}
-use Rattle.base.specs.Bytes.{separator, small, letter, digit, letter-or-digit, no-quote, run, begins, all, same, part}
+use Rattle.base.specs.Bytes.{separator, small, letter, digit, letter-or-digit, no-quote, run, begins, all, same}
+use Rattle.base.specs.inner.Parts.{part}
 use Rattle.base.proofs.Runs.{run-part, run-yes, run-fits}
 use Rattle.lexeme.specs.Lexemes.{Name, Quoted, Lexeme, lit, name, class, string, fixed, Placed, Next, lexeme, nothing, found, Keyword, keywords, capital-word, Sizes, letter-word, word, string-at, Symbol, symbols, symbol, colon, here, next, too-large}
 use Rattle.lexeme.specs.Lexemes as lexemes
-use Rattle.lexeme.specs.Coded.{kind-of, coded, code-of, what-of, told, placed, Ends, Stands, large}
+use Rattle.lexeme.specs.inner.Coded.{kind-of, coded, code-of, what-of, told, placed, Ends, Stands, large}
 use Rattle.lexeme.specs.declared.Kind.{Kind}
 use Rattle.lexeme.specs.declared.Kind.the-variants as kind
 use Rattle.lexeme.specs.declared.Lexeme as code

@@ -9,7 +9,7 @@ use Rattle.base.specs.declared.Refusal.{Refusal}
 use Rattle.base.specs.declared.Refusal.the-variants.{TooLarge}
 use Rattle.base.specs.Answers.{Answer, given, refused, pass}
 use Rattle.lexeme.specs.Lexemes.{fixed, end, Placed, lexeme, nothing, Sizes, next, too-large, sized, lexemes-from, lexemes}
-use Rattle.lexeme.specs.Coded.{kind-of, coded, scanned, large, Ends}
+use Rattle.lexeme.specs.inner.Coded.{kind-of, coded, scanned, large, Ends}
 use Rattle.lexeme.specs.declared.Lexeme.{Lexeme}
 use Rattle.lexeme.specs.declared.Found.the-variants.{Is, Refused}
 use Rattle.lexeme.proofs.Places.{Reading, one, none, reading, next-fits, next-no-end, next-large, coded-refused}

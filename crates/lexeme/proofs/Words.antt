@@ -12,7 +12,7 @@ use Rattle.base.specs.Answers.{refused}
 use Rattle.base.proofs.Runs.{all-own, run-alone, run-mixed, run-begun, digit-apart, letter-apart, letters-first, digits-first}
 use Rattle.base.specs.Bytes.{small, letter, digit, letter-or-digit, no-quote, run, begins, all, same, value}
 use Rattle.lexeme.specs.Lexemes.{Keyword, lit, fixed, capital-word, letter-word, word, string, string-at, found}
-use Rattle.lexeme.specs.Coded.{code-of, kind-of}
+use Rattle.lexeme.specs.inner.Coded.{code-of, kind-of}
 use Rattle.lexeme.specs.declared.Kind.{Kind}
 use Rattle.lexeme.specs.declared.Kind.the-variants.{Fixed}
 

@@ -1,2 +1,2 @@
-pub mod Coded
 pub mod Lexemes
+pub mod inner

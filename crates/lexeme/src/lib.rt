@@ -4,7 +4,7 @@ ghost use Prim.Native.Nat.{ℕ};
 ghost use lib.ListN.{drop};
 ghost use Rattle.lexeme.specs.Lexemes.{keywords, letter-word, capital-word};
 ghost use Rattle.base.specs.Bytes.{small, begins};
-ghost use Rattle.lexeme.specs.Coded.{kind-of, fixed-number};
+ghost use Rattle.lexeme.specs.inner.Coded.{kind-of, fixed-number};
 use base::Refusal;
 use base::is_same;
 

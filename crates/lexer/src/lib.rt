@@ -6,7 +6,7 @@ ghost use lib.Dec.{ltb};
 ghost use lib.ListN.{length, drop};
 ghost use Rattle.base.specs.Bytes.{separator, letter, digit, letter-or-digit, run, begins, value};
 ghost use Rattle.lexeme.specs.Lexemes.{word, string-at, symbols, symbol, colon, next, lexemes};
-ghost use Rattle.lexeme.specs.Coded.{coded, scanned, large};
+ghost use Rattle.lexeme.specs.inner.Coded.{coded, scanned, large};
 use base::Refusal;
 use base::Such;
 use lexeme::Found;

@@ -11,12 +11,12 @@ use lib.Seq.{take-at, drop-at, length-take-le, drop-drop}
 use borrow.Author.Tests.{leb-true}
 use Rattle.base.specs.declared.Printed.{Printed}
 use Rattle.base.specs.declared.Printed.the-variants.{UpTo, DoesNotFit}
-use Rattle.base.specs.Rooms.{with-bytes, Prints}
+use Rattle.base.specs.inner.Rooms.{with-bytes, Prints}
 use Rattle.machine.specs.Machine.{Lent, printed, written, prints}
 use Rattle.machine.specs.declared.state.State.{State}
 use Rattle.machine.specs.declared.state.Move.{Move}
 use Rattle.machine.specs.declared.state.Move.the-variants.{Go, Stop}
-use Rattle.machine.specs.Coded.{Good, Did}
+use Rattle.machine.specs.inner.Coded.{Good, Did}
 
 -- what becomes of the state
 abbrev pub after : State → Printed → Move

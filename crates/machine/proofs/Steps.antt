@@ -11,8 +11,8 @@ use lib.IntN.{ℤ, pos}
 use lib.ListN.{length, getD, set, length-set, getElem?}
 use borrow.Author.Tests.{lt-ltb, le-ltb}
 use Rattle.instruction.specs.Endings.{stack-full, bad-code}
-use Rattle.base.specs.Rooms.{said}
-use Rattle.instruction.specs.Coded.{as-result, as-instruction}
+use Rattle.base.specs.inner.Rooms.{said}
+use Rattle.instruction.specs.inner.Coded.{as-result, as-instruction}
 use Rattle.instruction.specs.declared.decode.Op.{Op}
 use Rattle.instruction.specs.declared.decode.Op.the-variants.{PrintStr}
 use Rattle.instruction.specs.declared.arith.Calculated.{Calculated}
@@ -22,7 +22,7 @@ use Rattle.machine.specs.Machine.{Lent, Machine, string, closed, go, sto
 use Rattle.machine.specs.declared.state.State.{State}
 use Rattle.machine.specs.declared.state.Move.{Move}
 use Rattle.machine.specs.declared.state.Move.the-variants.{Go, Set, Stop}
-use Rattle.machine.specs.Coded.{live, outside, machine-of, moves-to, pushes, puts, Rule, Good, Did}
+use Rattle.machine.specs.inner.Coded.{live, outside, machine-of, moves-to, pushes, puts, Rule, Good, Did}
 use Rattle.machine.proofs.Tried as T
 use Rattle.machine.proofs.Cells.{length-live, live-push, live-drop, peek-live}
 

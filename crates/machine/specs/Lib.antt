@@ -1,3 +1,3 @@
 pub mod Machine
-pub mod Coded
 pub mod Promise
+pub mod inner

@@ -2,11 +2,11 @@
 ghost use mathlib.Core.Bool.{cond};
 ghost use lib.ListN.{length};
 ghost use Prim.Native.Nat.{_≤_};
-ghost use Rattle.base.specs.Rooms.{said};
+ghost use Rattle.base.specs.inner.Rooms.{said};
 ghost use Rattle.machine.specs.Machine.{Lent, Machine, stop, tried, prints, string, closed};
 ghost use Rattle.instruction.specs.Endings.{bad-code};
 ghost use Rattle.instruction.specs.Instructions.{print-int};
-ghost use Rattle.machine.specs.Coded.{Prints, Stepped};
+ghost use Rattle.machine.specs.inner.Coded.{Prints, Stepped};
 use super::state::Move;
 use super::state::State;
 use super::state::moved;

@@ -1,6 +1,6 @@
 // The machine between two instructions: the index of the next pair in the table, the stack's depth, the readings used, the bytes printed.
 ghost use mathlib.Core.Path.{_≡_};
-ghost use Rattle.machine.specs.Coded.{moves-to};
+ghost use Rattle.machine.specs.inner.Coded.{moves-to};
 
 pub struct State {
     pub index: usize,

@@ -8,9 +8,10 @@ use lib.Dec.{ltb}
 use lib.ListN.{length, getD, take, drop}
 use lib.Seq.{drop-cons}
 use borrow.Author.Tests.{ne-eqb, lt-ltb, ltb-true, ltb-false}
-use Rattle.base.specs.Bytes.{part, same}
+use Rattle.base.specs.Bytes.{same}
+use Rattle.base.specs.inner.Parts.{part}
 use Rattle.names.specs.Names.{Declaration}
-use Rattle.names.specs.Held.{room, held, visible-in, latest}
+use Rattle.names.specs.inner.Held.{room, held, visible-in, latest}
 use Rattle.names.specs.declared.Cell.{Cell}
 use Rattle.names.specs.declared.Cell.the-variants.{At, Nowhere}
 

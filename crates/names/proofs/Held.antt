@@ -12,11 +12,12 @@ use lib.Seq.{sets, length-sets, getD-set-same, getD-set-other}
 use borrow.Author.Tests.{lt-ltb, le-ltb, ltb-true, ltb-false}
 use Rattle.base.specs.declared.Refusal.the-variants.{Undeclared, TooManyDeclared}
 use Rattle.base.specs.Answers.{Answer, given, refused}
-use Rattle.base.specs.Bytes.{part, same}
+use Rattle.base.specs.Bytes.{same}
+use Rattle.base.specs.inner.Parts.{part}
 use Rattle.lexeme.specs.Lexemes.{Name}
 use Rattle.names.specs.Names as N
 use Rattle.names.specs.Names.{Declaration, Known, nothing-declared, look-up, used, one-more, declared-here, opened, closed}
-use Rattle.names.specs.Held.{counts, with-counts, one-up, room, held, visible-in, scope-in, latest, declared-scope, entered, declared-in, opened-scope, opened-in, closed-scope, closed-in, Sound, Kept}
+use Rattle.names.specs.inner.Held.{counts, with-counts, one-up, room, held, visible-in, scope-in, latest, declared-scope, entered, declared-in, opened-scope, opened-in, closed-scope, closed-in, Sound, Kept}
 use Rattle.names.specs.declared.Scope.{Scope}
 use Rattle.names.specs.declared.Cell.{Cell}
 use Rattle.names.specs.declared.Cell.the-variants.{At, Nowhere}

@@ -6,8 +6,9 @@ ghost use Prim.Native.Nat.{ℕ, _+_, _*_, _<_};
 ghost use lib.Dec.{ltb};
 ghost use lib.ListN.{length, getD, set};
 ghost use lib.Seq.{sets};
-ghost use Rattle.base.specs.Bytes.{part, same};
-ghost use Rattle.names.specs.Held.{counts, room, with-counts, one-up, held, visible-in, latest, declared-scope, entered, declared-in, opened-in, closed-in};
+ghost use Rattle.base.specs.Bytes.{same};
+ghost use Rattle.base.specs.inner.Parts.{part};
+ghost use Rattle.names.specs.inner.Held.{counts, room, with-counts, one-up, held, visible-in, latest, declared-scope, entered, declared-in, opened-in, closed-in};
 
 // The counts of a scope.
 pub struct Scope {

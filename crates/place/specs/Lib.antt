@@ -1,3 +1,3 @@
-pub mod Kinds
 pub mod Places
 pub mod Shown
+pub mod inner

@@ -6,7 +6,7 @@ ghost use lib.ListN.{length, replicate};
 ghost use Rattle.base.specs.Bytes.{run};
 ghost use Rattle.lines.specs.Added.{Added};
 ghost use Rattle.place.specs.Places.{goes-on, count, within, line-start, spot};
-ghost use Rattle.place.specs.Kinds.{such};
+ghost use Rattle.place.specs.inner.Kinds.{such};
 ghost use Rattle.place.specs.Shown.{seen, shown-from, shown-to, only, line, mark, marked, marked-line};
 
 // A line and a column, counted from 1, and the place of the line's first byte.

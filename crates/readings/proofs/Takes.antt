@@ -14,8 +14,8 @@ use lib.Seq.{sets-eq}
 use borrow.Author.Tests.{lt-ltb, le-ltb, leb-true}
 use Rattle.base.specs.Bytes.{separator, run}
 use Rattle.readings.specs.Readings.{number-in-range, reading, other, past, readings}
-use Rattle.readings.specs.Rest.{from-a-word, from-within, left, stored-after, takes, stopped, over}
-use Rattle.readings.specs.Steps.{Both, both, word-more, stored, ended, ended-at}
+use Rattle.readings.specs.inner.Rest.{from-a-word, from-within, left, stored-after, takes, stopped, over}
+use Rattle.readings.specs.inner.Steps.{Both, both, word-more, stored, ended, ended-at}
 use Rattle.readings.specs.Taken.{Taken, taken-in}
 use Rattle.readings.specs.declared.Phase.{Phase}
 use Rattle.readings.specs.declared.Phase.the-variants.{Between, Minus, Number, Over}

@@ -12,8 +12,8 @@ use Rattle.base.specs.Bytes.{separator, digit, run, all, value}
 use Rattle.base.proofs.Runs.{run-yes, run-no}
 use Rattle.base.proofs.Words.{value-grows}
 use Rattle.readings.specs.Readings.{in-signed-range, number-in-range, digits-reading, reading, other, past, readings}
-use Rattle.readings.specs.Rest.{word-of, from-a-word, from-within, left}
-use Rattle.readings.specs.Steps.{digit-more, word-more}
+use Rattle.readings.specs.inner.Rest.{word-of, from-a-word, from-within, left}
+use Rattle.readings.specs.inner.Steps.{digit-more, word-more}
 use Rattle.readings.specs.declared.Phase.{Phase}
 use Rattle.readings.specs.declared.Phase.the-variants.{Between, Minus, Number, Over}
 

@@ -1,4 +1,3 @@
 pub mod Readings
-pub mod Rest
-pub mod Steps
 pub mod Taken
+pub mod inner

@@ -5,8 +5,8 @@ ghost use mathlib.Core.List.{List, [], _∷_, _++_};
 ghost use Prim.Native.Nat.{ℕ};
 ghost use lib.IntN.{ℤ};
 ghost use Rattle.readings.specs.Readings.{in-signed-range, signed, number-in-range};
-ghost use Rattle.readings.specs.Rest.{takes, over};
-ghost use Rattle.readings.specs.Steps.{digit-more, word-more, stored, ended};
+ghost use Rattle.readings.specs.inner.Rest.{takes, over};
+ghost use Rattle.readings.specs.inner.Steps.{digit-more, word-more, stored, ended};
 ghost use Rattle.readings.specs.Taken.{taken-in};
 
 // What the bytes since the last separator are: none, a minus alone, a number with its sign and magnitude; or the readings are over.

@@ -8,7 +8,7 @@ use native.Mathlib.Omega.{arith}
 use lib.Dec.{eqb}
 use borrow.Author.Tests.{eqb-true, eq-eqb, ne-eqb}
 use Rattle.lexeme.specs.Lexemes.{symbols, keywords, Fixed, Lexeme, lit, name, class, string, fixed, plus-sign, minus-sign, star, slash, less-sign, greater-sign, equals-sign}
-use Rattle.lexeme.specs.Coded.{code-of, kind-of, fixed-number, fixed-of, fixed-in, fixeds}
+use Rattle.lexeme.specs.inner.Coded.{code-of, kind-of, fixed-number, fixed-of, fixed-in, fixeds}
 use Rattle.lexeme.proofs.Decoded.{fixed-back, code-of-injective}
 use Rattle.sentence.specs.Sentences.{Sign, plus, minus, Mul, times, over, Rel, less, greater, equal, sign, mul, rel}
 use Rattle.sentence.proofs.Reader.{State, is, on, on-sign, on-mul, on-rel, is-sign, is-mul, is-rel}

@@ -10,7 +10,7 @@ use Rattle.base.specs.declared.Refusal.{Refusal}
 use Rattle.base.specs.declared.Refusal.the-variants.{TooDeep}
 use Rattle.base.specs.Answers.{Answer, given, refused}
 use Rattle.lexeme.specs.Lexemes.{Name, Lexeme, Placed, fixed, end}
-use Rattle.lexeme.specs.Coded.{code-of}
+use Rattle.lexeme.specs.inner.Coded.{code-of}
 use Rattle.sentence.specs.Sentences.{Sen, command, program-nestings}
 use Rattle.sentence.specs.Grammar.{Whole, Begins, Too-deep, Fault, no-program, too-deep, Faultless, Shallow, whats, Refused}
 use Rattle.sentence.proofs.Reader.{State, want-DO, whole, is, step, Verdict, verdict, goes-on, is-whole, begins-none, read}

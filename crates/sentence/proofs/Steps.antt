@@ -2,7 +2,7 @@
 use mathlib.Core.Path.{_≡_, refl, _∙_}
 use mathlib.Core.List.{_∷_, _++_, append-assoc}
 use Prim.Native.Nat.{suc}
-use Rattle.lexeme.specs.Coded.{code-of}
+use Rattle.lexeme.specs.inner.Coded.{code-of}
 use Rattle.lexeme.specs.Lexemes.{Name, Lexeme, fixed}
 use Rattle.lexeme.specs.Lexemes.{plus-sign, minus-sign, star, slash, less-sign, greater-sign, equals-sign, open-round, close-round, open-brace, close-brace, becomes, DO, ERROR, IF, INT, NOT, PRINTI, PRINTLNS, PRINTS, READ, THEN, WHILE, end}
 use Rattle.sentence.specs.Sentences.{Sen, factor, term, expression, condition, command, commands, literal, variable, bracket, unsigned, signed, add, negated, compare, print, assign, while, when, single, then}

@@ -3,7 +3,7 @@ use mathlib.Core.Path.{_≡_, refl, ap}
 use mathlib.Core.List.{List, [], _∷_, _++_, append-assoc}
 use mathlib.Core.Bool.{Bool, false, cond, _||_}
 use Prim.Native.Nat.{ℕ, suc}
-use Rattle.lexeme.specs.Coded.{code-of, kind-of, fixed-number}
+use Rattle.lexeme.specs.inner.Coded.{code-of, kind-of, fixed-number}
 use Rattle.lexeme.specs.Lexemes.{Name, Lexeme, name, fixed}
 use Rattle.lexeme.specs.Lexemes.{close-round, open-brace, close-brace, DO, ERROR, IF, INT, PRINTI, PRINTLNS, PRINTS, READ, THEN, WHILE, end}
 use Rattle.sentence.specs.Sentences.{Sign, plus, minus, Mul, times, over, Rel, less, greater, equal, sign, mul, rel, Kind, Sen, factor, term, expression, condition, command, commands, literal, variable, bracket, first, multiply, unsigned, signed, add, negated, compare, print, print-line, print-string, declare, input, assign, error, while, when, block, single, then}

@@ -11,7 +11,7 @@ use lib.IntN.{ℤ}
 use lib.ListN.{length, set}
 use lib.Seq.{sets, set-comm, length-sets}
 use Rattle.instruction.specs.Instructions.{Instruction, encode}
-use Rattle.tables.specs.Tables.{put, emit}
+use Rattle.tables.specs.inner.Tables.{put, emit}
 use Rattle.instruction.proofs.Pairs.{length-pair}
 
 -- ---- one pair

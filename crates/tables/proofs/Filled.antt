@@ -9,7 +9,8 @@ use lib.ListN.{length, drop, replicate, length-replicate}
 use lib.Seq.{sets, sets-eq, length-sets}
 use Rattle.instruction.specs.Instructions.{Instruction, encode, numbers}
 use Rattle.instruction.proofs.Pairs.{Written, written, length-numbers}
-use Rattle.tables.specs.Tables.{put, emit, filled}
+use Rattle.tables.specs.inner.Tables.{put, emit}
+use Rattle.tables.specs.Filled.{filled}
 
 -- an instruction is two numbers, in front of what follows
 is-pair : (i : Instruction) → (a b : ℤ) × ((t : List ℤ) → encode i t ≡ a ∷ b ∷ t)

@@ -7,7 +7,7 @@ use native.Mathlib.Omega.{arith}
 use lib.IntN.{ℤ}
 use lib.ListN.{replicate}
 use Rattle.instruction.specs.Instructions.{Instruction, encode}
-use Rattle.tables.specs.Tables.{put, emit}
+use Rattle.tables.specs.inner.Tables.{put, emit}
 
 -- a loop that stores v up to a place: what is left to store, before and after one store
 rest-of : {A : Type 0} (v : A) (n i : ℕ) → i < n → replicate (n - i) v ≡ v ∷ replicate (n - (i + 1)) v

@@ -1,2 +1,2 @@
-pub mod Tables
-pub mod Settled
+pub mod Filled
+pub mod inner

@@ -1,7 +1,7 @@
 -- `lexeme::is_such` meets its contract. Assumes nothing.
 use mathlib.Core.Path.{refl}
 use Rattle.base.specs.Bytes.{letter-or-digit, no-quote}
-use Rattle.base.specs.Kinds.{such}
+use Rattle.base.specs.inner.Kinds.{such}
 use borrow.Author.Needs.{needs}
 use Rattle.base.proofs.is_such.Statement.{statement}
 use Rattle.base.proofs.is_such.Tie as tie

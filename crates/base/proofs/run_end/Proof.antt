@@ -6,7 +6,7 @@ use borrow.Author.Needs.{needs}
 use borrow.Author.Tests.{not-true, not-false}
 use lib.ListN.{length, drop}
 use Rattle.base.specs.Bytes.{run}
-use Rattle.base.specs.Kinds.{such}
+use Rattle.base.specs.inner.Kinds.{such}
 use Rattle.base.proofs.Runs.{run-on, run-stop, run-out}
 use Rattle.base.proofs.run_end.Statement.{statement}
 use Rattle.base.proofs.run_end.Tie as tie

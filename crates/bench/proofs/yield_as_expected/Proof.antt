@@ -2,7 +2,7 @@
 use mathlib.Core.Path.{refl}
 use Rattle.base.specs.Answers as Answers
 use Rattle.base.specs.Bytes as Bytes
-use Rattle.lexeme.specs.Coded as Coded
+use Rattle.lexeme.specs.inner.Coded as Coded
 use Rattle.lexeme.specs.Lexemes as Lexemes
 use Rattle.sentence.specs.Sentences as Sentences
 use Rattle.sentence.proofs.Reader as Reader
@@ -13,7 +13,7 @@ use Rattle.machine.specs.Machine as Machine
 use Rattle.meaning.specs.Layout as Layout
 use Rattle.meaning.specs.Meaning as Meaning
 use Rattle.compiler.specs.Compiled as Compiled
-use Rattle.compiler.specs.Measured as Measured
+use Rattle.compiler.specs.inner.Measured as Measured
 use Rattle.compiler.proofs.Judging as Judging
 use Rattle.kit.specs.Kit as Kit
 use Rattle.bench.proofs.Rows as Rows

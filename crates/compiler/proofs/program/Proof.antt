@@ -1,6 +1,6 @@
 -- `compiler::program` meets its contract. Assumes nothing.
 use denote.Ref.{now}
-use Rattle.lexeme.specs.Coded.{code-of}
+use Rattle.lexeme.specs.inner.Coded.{code-of}
 use native.Mathlib.Omega.{arith}
 use mathlib.Core.Path.{sym, _∙_}
 use Rattle.compiler.proofs.Programs.{Begun, begun, not-lexed, first-within, not-begun, begun-ready, command-refused, not-ended, whole-read}

@@ -6,7 +6,7 @@ use Prim.Native.Nat.{ℕ}
 use borrow.Author.Needs.{needs}
 use lib.IntN.{ℤ}
 use lib.ListN.{length}
-use Rattle.readings.specs.Rest.{takes}
+use Rattle.readings.specs.inner.Rest.{takes}
 use Rattle.readings.specs.Taken.{taken-in}
 use Rattle.readings.specs.declared.Reader.{Reader}
 use Rattle.input.specs.Chunks.{Went}

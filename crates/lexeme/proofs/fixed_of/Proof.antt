@@ -4,7 +4,7 @@ use mathlib.Core.List.{[], _∷_}
 use types.Run.{OneOf, miss}
 use denote.Enum.Declared.{tagOf}
 use borrow.Author.Needs.{needs}
-use Rattle.lexeme.specs.Coded.{fixed-number}
+use Rattle.lexeme.specs.inner.Coded.{fixed-number}
 use Rattle.lexeme.specs.declared.Kind.{Kind}
 use Rattle.lexeme.specs.declared.Kind.the-variants.{Literal, Name, Class, Str, Fixed}
 use Rattle.lexeme.proofs.Kind.{the-type}

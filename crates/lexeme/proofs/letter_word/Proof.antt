@@ -1,7 +1,7 @@
 -- `lexeme::letter_word` meets its contract. Assumes nothing.
 use borrow.Author.Needs.{needs}
 use Rattle.lexeme.specs.Lexemes.{letter-word}
-use Rattle.lexeme.specs.Coded.{kind-of}
+use Rattle.lexeme.specs.inner.Coded.{kind-of}
 use Rattle.lexeme.proofs.letter_word.Statement.{statement}
 use Rattle.lexeme.proofs.letter_word.Tie as tie
 

@@ -5,7 +5,7 @@ use native.Mathlib.Omega.{arith}
 use borrow.Author.Needs.{needs}
 use denote.Ref.{now}
 use lib.ListN.{length}
-use Rattle.lexeme.specs.Coded.{code-of, fixed-number}
+use Rattle.lexeme.specs.inner.Coded.{code-of, fixed-number}
 use Rattle.lexeme.proofs.Places.{next-stands}
 use Rattle.lexeme_test.proofs.say_lexemes.Statement.{statement}
 use Rattle.lexeme_test.proofs.say_lexemes.Tie as tie

@@ -5,7 +5,7 @@ use denote.Ref.{now}
 use lib.ListN.{drop-of-length-le}
 use lib.Seq.{drop-cons}
 use Rattle.lexeme.specs.Lexemes.{colon, found}
-use Rattle.lexeme.specs.Coded.{kind-of, coded, code-of}
+use Rattle.lexeme.specs.inner.Coded.{kind-of, coded, code-of}
 use borrow.Author.Needs.{needs}
 use Rattle.lexer.proofs.colon_at.Statement.{statement}
 use Rattle.lexer.proofs.colon_at.Tie as tie

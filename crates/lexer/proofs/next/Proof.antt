@@ -6,10 +6,10 @@ use native.Mathlib.Omega.{arith}
 use borrow.Author.Tests.{ne-eqb}
 use denote.Ref.{now}
 use lib.ListN.{getD}
-use Rattle.base.specs.Kinds.{such}
+use Rattle.base.specs.inner.Kinds.{such}
 use Rattle.base.proofs.Runs.{begins-at, letter-is, digit-is, neither-is}
 use Rattle.lexeme.specs.Lexemes.{next}
-use Rattle.lexeme.specs.Coded.{coded, code-of}
+use Rattle.lexeme.specs.inner.Coded.{coded, code-of}
 use Rattle.lexeme.proofs.Places.{here-end, here-word, here-other, other}
 use borrow.Author.Needs.{needs}
 use Rattle.lexer.proofs.next.Statement.{statement}

@@ -7,7 +7,7 @@ use denote.Ref.{now}
 use lib.Dec.{lit<}
 use lib.ListN.{length}
 use Rattle.lexeme.specs.Lexemes.{Sizes, end}
-use Rattle.lexeme.specs.Coded.{code-of, fixed-number, Ends}
+use Rattle.lexeme.specs.inner.Coded.{code-of, fixed-number, Ends}
 use Rattle.lexeme.proofs.Decoded.{number-fixed}
 use Rattle.lexeme.proofs.Places.{next-stands}
 use Rattle.lexeme.proofs.Scans.{Scan, scan-starts, scan-refused, scan-large, scan-ends, scan-on}

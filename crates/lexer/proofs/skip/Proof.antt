@@ -4,7 +4,7 @@ use native.Mathlib.Omega.{arith}
 use borrow.Author.Needs.{needs}
 use borrow.Author.Tests.{not-true}
 use Rattle.base.specs.Bytes.{separator}
-use Rattle.base.specs.Kinds.{such}
+use Rattle.base.specs.inner.Kinds.{such}
 use Rattle.base.proofs.Runs.{run-none}
 use Rattle.lexer.proofs.skip.Statement.{statement}
 use Rattle.lexer.proofs.skip.Tie as tie

@@ -2,8 +2,8 @@
 use mathlib.Core.Path.{ap}
 use borrow.Author.Needs.{needs}
 use Rattle.lexeme.specs.Lexemes.{found}
-use Rattle.base.specs.Kinds.{such}
-use Rattle.lexeme.specs.Coded.{kind-of, coded}
+use Rattle.base.specs.inner.Kinds.{such}
+use Rattle.lexeme.specs.inner.Coded.{kind-of, coded}
 use Rattle.lexeme.proofs.Words.{string-open, string-closed}
 use Rattle.lexer.proofs.string_at.Statement.{statement}
 use Rattle.lexer.proofs.string_at.Tie as tie

@@ -5,7 +5,7 @@ use mathlib.Core.Logic.{inl, inr}
 use native.Mathlib.Omega.{arith}
 use Rattle.base.specs.declared.Refusal.the-variants.{NoLexeme}
 use Rattle.lexeme.specs.Lexemes.{symbols, symbol, found}
-use Rattle.lexeme.specs.Coded.{coded, kind-of, code-of}
+use Rattle.lexeme.specs.inner.Coded.{coded, kind-of, code-of}
 use Rattle.lexeme.specs.declared.Kind.the-variants.{Fixed}
 use Rattle.lexeme.specs.declared.Found.the-variants.{Is, Refused}
 use Rattle.lexeme.proofs.Symbols.{nil, _also_, one-of, in-range, symbol-none}

@@ -1,7 +1,7 @@
 -- `names::close` meets its contract. Assumes nothing.
 use mathlib.Core.Path.{refl}
 use borrow.Author.Needs.{needs}
-use Rattle.names.specs.Held.{closed-in, closed-scope}
+use Rattle.names.specs.inner.Held.{closed-in, closed-scope}
 use Rattle.names.proofs.close.Statement.{statement}
 use Rattle.names.proofs.close.Tie as tie
 

@@ -2,7 +2,7 @@
 use mathlib.Core.Path.{refl}
 use borrow.Author.Needs.{needs}
 use borrow.Author.Tests.{lt-ltb, le-ltb}
-use Rattle.names.specs.Held.{declared-in}
+use Rattle.names.specs.inner.Held.{declared-in}
 use Rattle.names.proofs.declare.Statement.{statement}
 use Rattle.names.proofs.declare.Tie as tie
 

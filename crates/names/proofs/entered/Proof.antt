@@ -4,7 +4,7 @@ use Prim.Native.Nat.{_≤_, _<_}
 use borrow.Author.Needs.{needs}
 use borrow.Author.Tests.{lt-ltb, le-ltb}
 use denote.Ref.{now}
-use Rattle.names.specs.Held.{counts, room, entered}
+use Rattle.names.specs.inner.Held.{counts, room, entered}
 use Rattle.names.proofs.entered.Statement.{statement}
 use Rattle.names.proofs.entered.Tie as tie
 

@@ -1,6 +1,6 @@
 -- `names::is_named` meets its contract. Assumes nothing.
 use borrow.Author.Needs.{needs}
-use Rattle.names.specs.Held.{held}
+use Rattle.names.specs.inner.Held.{held}
 use Rattle.names.proofs.is_named.Statement.{statement}
 use Rattle.names.proofs.is_named.Tie as tie
 

@@ -1,6 +1,6 @@
 -- `names::one_more` meets its contract. Assumes nothing.
 use native.Mathlib.Omega.{arith}
-use Rattle.names.specs.Held.{one-up}
+use Rattle.names.specs.inner.Held.{one-up}
 use borrow.Author.Needs.{needs}
 use Rattle.names.proofs.one_more.Statement.{statement}
 use Rattle.names.proofs.one_more.Tie as tie

@@ -1,7 +1,7 @@
 -- `names::open` meets its contract. Assumes nothing.
 use mathlib.Core.Path.{refl}
 use borrow.Author.Needs.{needs}
-use Rattle.names.specs.Held.{opened-in, opened-scope}
+use Rattle.names.specs.inner.Held.{opened-in, opened-scope}
 use Rattle.names.proofs.open.Statement.{statement}
 use Rattle.names.proofs.open.Tie as tie
 

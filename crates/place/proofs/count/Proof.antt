@@ -6,7 +6,7 @@ use native.Mathlib.Omega.{arith}
 use borrow.Author.Needs.{needs}
 use lib.ListN.{length, drop}
 use Rattle.place.specs.Places.{count}
-use Rattle.place.specs.Kinds.{such}
+use Rattle.place.specs.inner.Kinds.{such}
 use Rattle.place.proofs.Places.{count-yes, count-no, count-out}
 use Rattle.place.proofs.count.Statement.{statement}
 use Rattle.place.proofs.count.Tie as tie

@@ -2,7 +2,7 @@
 use mathlib.Core.Path.{refl, ap}
 use mathlib.Core.Bool.{not}
 use Rattle.place.specs.Places.{line-feed, no-line-feed, begins}
-use Rattle.place.specs.Kinds.{such}
+use Rattle.place.specs.inner.Kinds.{such}
 use borrow.Author.Needs.{needs}
 use Rattle.place.proofs.is_such.Statement.{statement}
 use Rattle.place.proofs.is_such.Tie as tie

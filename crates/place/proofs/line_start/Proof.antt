@@ -4,7 +4,7 @@ use mathlib.Core.Path.{_≡_, sym, _∙_}
 use native.Mathlib.Omega.{arith}
 use borrow.Author.Needs.{needs}
 use Rattle.place.specs.Places.{line-start}
-use Rattle.place.specs.Kinds.{such}
+use Rattle.place.specs.inner.Kinds.{such}
 use Rattle.place.proofs.Places.{start-here, start-back, start-first}
 use Rattle.place.proofs.line_start.Statement.{statement}
 use Rattle.place.proofs.line_start.Tie as tie

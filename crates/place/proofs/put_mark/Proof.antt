@@ -1,7 +1,7 @@
 -- `place::put_mark` meets its contract. Assumes nothing.
 use Rattle.base.specs.Bytes.{bytes, bytes-from}
 use Rattle.lines.proofs.Adds.{adds-then}
-use Rattle.place.specs.Kinds.{such}
+use Rattle.place.specs.inner.Kinds.{such}
 use Rattle.place.specs.Shown.{mark}
 use borrow.Author.Needs.{needs}
 use Rattle.place.proofs.put_mark.Statement.{statement}

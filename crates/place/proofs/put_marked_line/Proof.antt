@@ -1,7 +1,7 @@
 -- `place::put_marked_line` meets its contract. Assumes nothing.
 use native.Mathlib.Omega.{arith}
 use denote.Ref.{now}
-use Rattle.place.specs.Kinds.{such}
+use Rattle.place.specs.inner.Kinds.{such}
 use Rattle.place.proofs.Places.{within-fits, start-fits}
 use Rattle.place.proofs.Shown.{end-fits, same-adds, marked-text}
 use borrow.Author.Needs.{needs}

@@ -7,7 +7,7 @@ use borrow.Author.Tests.{not-true, not-false}
 use lib.ListN.{length, drop}
 use Rattle.base.specs.Bytes.{run}
 use Rattle.base.proofs.Runs.{run-on, run-stop, run-out}
-use Rattle.place.specs.Kinds.{such}
+use Rattle.place.specs.inner.Kinds.{such}
 use Rattle.place.proofs.run.Statement.{statement}
 use Rattle.place.proofs.run.Tie as tie
 

@@ -1,6 +1,6 @@
 -- `place::shown_from` meets its contract. Assumes nothing.
 use native.Mathlib.Omega.{arith}
-use Rattle.place.specs.Kinds.{such}
+use Rattle.place.specs.inner.Kinds.{such}
 use Rattle.place.proofs.Shown.{from-all, from-cut, from-fits}
 use borrow.Author.Needs.{needs}
 use Rattle.place.proofs.shown_from.Statement.{statement}

@@ -2,7 +2,7 @@
 use mathlib.Core.Path.{sym}
 use native.Mathlib.Omega.{arith}
 use lib.Seq.{length-take-le}
-use Rattle.place.specs.Kinds.{such}
+use Rattle.place.specs.inner.Kinds.{such}
 use Rattle.place.proofs.Places.{within-fits}
 use Rattle.place.proofs.Shown.{to-is, to-fits}
 use borrow.Author.Needs.{needs}

@@ -7,7 +7,7 @@ use denote.Ref.{now}
 use lib.ListN.{drop}
 use lib.Seq.{length-take-le}
 use Rattle.place.specs.Places.{before, spot-at, spot}
-use Rattle.place.specs.Kinds.{such}
+use Rattle.place.specs.inner.Kinds.{such}
 use Rattle.place.proofs.Places.{count-take, within-fits, start-fits}
 use Rattle.place.proofs.spot_of.Statement.{statement}
 use Rattle.place.proofs.spot_of.Tie as tie

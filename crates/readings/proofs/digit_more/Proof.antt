@@ -2,7 +2,7 @@
 use mathlib.Core.Path.{sym, _∙_}
 use borrow.Author.Tests.{not-true, not-false}
 use native.Mathlib.Omega.{arith}
-use Rattle.readings.specs.Steps.{digit-more}
+use Rattle.readings.specs.inner.Steps.{digit-more}
 use Rattle.readings.proofs.Numbers.{digit-low, range-most}
 use borrow.Author.Needs.{needs}
 use Rattle.readings.proofs.digit_more.Statement.{statement}

@@ -3,7 +3,7 @@ use mathlib.Core.Path.{_≡_, refl}
 use mathlib.Core.List.{List}
 use denote.Ref.{now}
 use lib.IntN.{ℤ}
-use Rattle.readings.specs.Steps.{both, ended, ended-at}
+use Rattle.readings.specs.inner.Steps.{both, ended, ended-at}
 use Rattle.readings.specs.declared.Phase.{Phase}
 use Rattle.readings.specs.declared.Phase.the-variants.{Between, Over}
 use Rattle.readings.specs.declared.Reader.{Reader}

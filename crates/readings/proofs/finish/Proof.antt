@@ -1,6 +1,6 @@
 -- `readings::finish` meets its contract. Assumes nothing.
 use mathlib.Core.Path.{ap, _∙_}
-use Rattle.readings.specs.Steps.{Both}
+use Rattle.readings.specs.inner.Steps.{Both}
 use Rattle.readings.specs.Taken.{Taken}
 use Rattle.readings.proofs.Takes.{at-end}
 use borrow.Author.Needs.{needs}

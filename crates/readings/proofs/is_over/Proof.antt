@@ -1,6 +1,6 @@
 -- `readings::is_over` meets its contract. Assumes nothing.
 use mathlib.Core.Path.{refl}
-use Rattle.readings.specs.Rest.{stopped, over}
+use Rattle.readings.specs.inner.Rest.{stopped, over}
 use borrow.Author.Needs.{needs}
 use Rattle.readings.proofs.is_over.Statement.{statement}
 use Rattle.readings.proofs.is_over.Tie as tie

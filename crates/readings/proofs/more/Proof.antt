@@ -8,7 +8,7 @@ use borrow.Author.Needs.{needs}
 use denote.Ref.{now}
 use lib.ListN.{length, getD, drop, drop-of-length-le}
 use lib.Seq.{drop-cons}
-use Rattle.readings.specs.Rest.{takes}
+use Rattle.readings.specs.inner.Rest.{takes}
 use Rattle.readings.proofs.more.Statement.{statement}
 use Rattle.readings.proofs.more.Tie as tie
 

@@ -6,7 +6,7 @@ use lib.ListN.{length}
 use mir.Syntax.{w32}
 use mir.Val.{SFits}
 use mir.Facts.{toZ-ofZ}
-use Rattle.readings.specs.Steps.{stored}
+use Rattle.readings.specs.inner.Steps.{stored}
 use Rattle.readings.specs.Readings.{number-in-range}
 use borrow.Author.Needs.{needs}
 use Rattle.readings.proofs.store.Statement.{statement}

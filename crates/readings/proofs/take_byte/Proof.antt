@@ -1,7 +1,7 @@
 -- `readings::take_byte` meets its contract. Assumes nothing.
 use mathlib.Core.Path.{sym, ap, _∙_}
-use Rattle.readings.specs.Rest.{takes}
-use Rattle.readings.specs.Steps.{Both}
+use Rattle.readings.specs.inner.Rest.{takes}
+use Rattle.readings.specs.inner.Steps.{Both}
 use Rattle.readings.proofs.Takes.{at-separator, at-other}
 use borrow.Author.Needs.{needs}
 use Rattle.readings.proofs.take_byte.Statement.{statement}

@@ -1,6 +1,6 @@
 -- `readings::word_more` meets its contract. Assumes nothing.
 use borrow.Author.Tests.{eq-eqb, ne-eqb}
-use Rattle.readings.specs.Steps.{word-more}
+use Rattle.readings.specs.inner.Steps.{word-more}
 use borrow.Author.Needs.{needs}
 use Rattle.readings.proofs.word_more.Statement.{statement}
 use Rattle.readings.proofs.word_more.Tie as tie

@@ -1,6 +1,6 @@
 -- `tables::operand` meets its contract. Assumes nothing.
 use borrow.Author.Tests.{lt-ltb, le-ltb}
-use Rattle.tables.specs.Tables.{operand-of}
+use Rattle.tables.specs.inner.Tables.{operand-of}
 use borrow.Author.Needs.{needs}
 use Rattle.tables.proofs.operand.Statement.{statement}
 use Rattle.tables.proofs.operand.Tie as tie

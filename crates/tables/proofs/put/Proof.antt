@@ -5,7 +5,7 @@ use borrow.Author.Tests.{lt-ltb, le-ltb}
 use borrow.Author.Needs.{needs}
 use mir.Facts.{toZ-ofZ}
 use lib.ListN.{length-set}
-use Rattle.tables.specs.Tables.{put}
+use Rattle.tables.specs.inner.Tables.{put}
 use Rattle.tables.proofs.put.Statement.{statement}
 use Rattle.tables.proofs.put.Tie as tie
 

@@ -7,7 +7,7 @@ use borrow.Author.Needs.{needs}
 use lib.IntN.{pos}
 use lib.ListN.{length, replicate}
 use Rattle.instruction.specs.Instructions.{push-int, encode}
-use Rattle.tables.specs.Tables.{emit, opening}
+use Rattle.tables.specs.inner.Tables.{emit, opening}
 use Rattle.tables.proofs.Stores.{emit-on, emit-out}
 use Rattle.tables.proofs.put_cells.Statement.{statement}
 use Rattle.tables.proofs.put_cells.Tie as tie

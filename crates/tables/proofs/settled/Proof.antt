@@ -6,7 +6,7 @@ use native.Mathlib.Omega.{arith}
 use lib.Dec.{ltb}
 use borrow.Author.Tests.{lt-ltb, le-ltb}
 use borrow.Author.Needs.{needs}
-use Rattle.tables.specs.Settled.{settled-by}
+use Rattle.tables.specs.inner.Settled.{settled-by}
 use Rattle.tables.proofs.settled.Statement.{statement}
 use Rattle.tables.proofs.settled.Tie as tie
 

@@ -2,7 +2,7 @@
 use mathlib.Core.Path.{sym, _∙_}
 use borrow.Author.Tests.{eq-eqb, ne-eqb, le-leb, lt-leb}
 use Rattle.base.specs.Bytes.{bytes, bytes-from}
-use Rattle.base.specs.Kinds.{such}
+use Rattle.base.specs.inner.Kinds.{such}
 use Rattle.words.specs.Words.{no-lexeme}
 use borrow.Author.Needs.{needs}
 use Rattle.words.proofs.put_no_lexeme.Statement.{statement}

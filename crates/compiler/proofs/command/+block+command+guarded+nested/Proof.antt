@@ -7,11 +7,11 @@ use borrow.Author.Needs.{needs}
 use borrow.Author.Tests.{ne-eqb}
 use denote.Ref.{now}
 use lib.ListN.{length}
-use Rattle.lexeme.specs.Coded.{code-of, fixed-number}
-use Rattle.names.specs.Held.{opened-in}
+use Rattle.lexeme.specs.inner.Coded.{code-of, fixed-number}
+use Rattle.names.specs.inner.Held.{opened-in}
 use Rattle.instruction.specs.Instructions.{encode}
-use Rattle.compiler.specs.Steps.{moved-to, one-instruction, Expects, before-body}
-use Rattle.compiler.specs.Walks.{First, Reads, want-nested}
+use Rattle.compiler.specs.inner.Steps.{moved-to, one-instruction, Expects, before-body}
+use Rattle.compiler.specs.inner.Walks.{First, Reads, want-nested}
 use Rattle.compiler.proofs.Bodies.{lost-ahead, crossed, ready-first, reads-begun, ready-inside, Headed, head-small, ready-headed, body-leads, Bodied, body-small, end-small, guarded-read, so-far-closed, More, more-on}
 use Rattle.compiler.proofs.Commands.{command-way, guarded-way, block-way, block-so-far, guarded-refused, no-body, block-first, block-more, Starts, begins-nested, too-deep-begun}
 use Rattle.compiler.proofs.Lays.{lays-single}

@@ -3,8 +3,8 @@ use borrow.Author.Needs.{needs}
 use denote.Ref.{now}
 use mir.Facts.{toZ-ofZ}
 use Rattle.lexeme.specs.Lexemes.{becomes}
-use Rattle.lexeme.specs.Coded.{code-of}
-use Rattle.compiler.specs.Steps.{Expects, cell-of}
+use Rattle.lexeme.specs.inner.Coded.{code-of}
+use Rattle.compiler.specs.inner.Steps.{Expects, cell-of}
 use Rattle.compiler.proofs.Bodies.{named-walk, ready-named, no-value, Crossed, crossed, ready-value, value-leads, assigned}
 use Rattle.compiler.proofs.Passes.{expression-way}
 use Rattle.compiler.proofs.Replies.{fits-read, followed-read}

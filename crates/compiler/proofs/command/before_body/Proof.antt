@@ -1,6 +1,6 @@
 -- `compiler::command::before_body` meets its contract. Assumes nothing.
-use Rattle.lexeme.specs.Coded.{code-of}
-use Rattle.compiler.specs.Steps.{before-body}
+use Rattle.lexeme.specs.inner.Coded.{code-of}
+use Rattle.compiler.specs.inner.Steps.{before-body}
 use Rattle.compiler.proofs.command.before_body.Statement.{statement}
 use Rattle.compiler.proofs.command.before_body.Tie as tie
 

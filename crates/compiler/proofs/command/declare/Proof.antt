@@ -4,8 +4,8 @@ use mathlib.Core.Path.{ap}
 use native.Mathlib.Omega.{arith}
 use mir.Facts.{toZ-ofZ}
 use Rattle.compiler.specs.declared.walk.Walk.{Walk}
-use Rattle.compiler.specs.Steps.{one-instruction}
-use Rattle.compiler.specs.Walks.{Reads}
+use Rattle.compiler.specs.inner.Steps.{one-instruction}
+use Rattle.compiler.specs.inner.Walks.{Reads}
 use Rattle.compiler.proofs.Bodies.{not-name, name-given}
 use Rattle.compiler.proofs.Commands.{none-declared}
 use Rattle.compiler.proofs.Names.{declared-is}

@@ -6,7 +6,7 @@ use lib.IntN.{pos}
 use Rattle.compiler.proofs.Stores.{count-fits}
 use mathlib.Core.Path.{refl}
 use Rattle.instruction.specs.Instructions.{encode}
-use Rattle.compiler.specs.Steps.{ended-walk, ended-table}
+use Rattle.compiler.specs.inner.Steps.{ended-walk, ended-table}
 use borrow.Author.Needs.{needs}
 use Rattle.compiler.proofs.command.ended.Statement.{statement}
 use Rattle.compiler.proofs.command.ended.Tie as tie

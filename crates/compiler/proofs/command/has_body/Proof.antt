@@ -2,8 +2,8 @@
 use mathlib.Core.Path.{refl}
 use mathlib.Core.Logic.{inl, inr}
 use borrow.Author.Tests.{ne-eqb}
-use Rattle.lexeme.specs.Coded.{code-of}
-use Rattle.compiler.specs.Steps.{has-body}
+use Rattle.lexeme.specs.inner.Coded.{code-of}
+use Rattle.compiler.specs.inner.Steps.{has-body}
 use Rattle.compiler.proofs.command.has_body.Statement.{statement}
 use Rattle.compiler.proofs.command.has_body.Tie as tie
 

@@ -1,6 +1,6 @@
 -- `compiler::command::print_int` meets its contract. Assumes nothing.
 use borrow.Author.Needs.{needs}
-use Rattle.compiler.specs.Steps.{one-instruction}
+use Rattle.compiler.specs.inner.Steps.{one-instruction}
 use Rattle.compiler.proofs.Commands.{print-leads}
 use Rattle.compiler.proofs.Lays.{lays-print}
 use Rattle.compiler.proofs.Passes.{expression-way}

@@ -1,8 +1,8 @@
 -- `compiler::command::print_string` meets its contract. Assumes nothing.
 use borrow.Author.Needs.{needs}
 use mir.Facts.{toZ-ofZ}
-use Rattle.compiler.specs.Steps.{one-instruction}
-use Rattle.compiler.specs.Walks.{Reads}
+use Rattle.compiler.specs.inner.Steps.{one-instruction}
+use Rattle.compiler.specs.inner.Walks.{Reads}
 use Rattle.compiler.proofs.Bodies.{not-string, printed}
 use Rattle.compiler.proofs.Commands.{no-quoted}
 use Rattle.compiler.proofs.command.print_string.Statement.{statement}

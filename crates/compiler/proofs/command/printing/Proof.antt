@@ -1,6 +1,6 @@
 -- `compiler::command::printing` meets its contract. Assumes nothing.
 use Rattle.instruction.specs.Instructions.{encode, opcode}
-use Rattle.compiler.specs.Steps.{printing-number}
+use Rattle.compiler.specs.inner.Steps.{printing-number}
 use Rattle.compiler.proofs.command.printing.Statement.{statement}
 use Rattle.compiler.proofs.command.printing.Tie as tie
 

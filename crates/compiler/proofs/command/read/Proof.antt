@@ -1,8 +1,8 @@
 -- `compiler::command::read` meets its contract. Assumes nothing.
 use borrow.Author.Needs.{needs}
 use native.Mathlib.Omega.{arith}
-use Rattle.compiler.specs.Steps.{one-instruction}
-use Rattle.compiler.specs.Walks.{Reads}
+use Rattle.compiler.specs.inner.Steps.{one-instruction}
+use Rattle.compiler.specs.inner.Walks.{Reads}
 use Rattle.compiler.proofs.Bodies.{not-name, name-stored}
 use Rattle.compiler.proofs.Commands.{none-read}
 use Rattle.compiler.proofs.Names.{noted-is}

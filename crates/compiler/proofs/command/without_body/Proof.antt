@@ -3,9 +3,9 @@ use mathlib.Core.Path.{refl, sym, _∙_}
 use native.Mathlib.Nat.{le-refl}
 use native.Mathlib.Omega.{arith}
 use borrow.Author.Needs.{needs}
-use Rattle.lexeme.specs.Coded.{code-of}
-use Rattle.compiler.specs.Steps.{moved-to}
-use Rattle.compiler.specs.Walks.{Reads}
+use Rattle.lexeme.specs.inner.Coded.{code-of}
+use Rattle.compiler.specs.inner.Steps.{moved-to}
+use Rattle.compiler.specs.inner.Walks.{Reads}
 use Rattle.compiler.proofs.Bodies.{not-name, ready-first, reads-begun, error-done}
 use Rattle.compiler.proofs.Commands.{command-way, begins-assign, begins-declare, begins-print, begins-line, begins-string, begins-read, no-command}
 use Rattle.compiler.proofs.Replies.{done, code-fits}

@@ -13,7 +13,7 @@ use denote.Ref.{now}
 use lib.IntN.{ℤ, pos}
 use lib.ListN.{length}
 use Rattle.lexeme.specs.Lexemes.{Name, close-round, open-round}
-use Rattle.lexeme.specs.Coded.{code-of, kind-of, fixed-number}
+use Rattle.lexeme.specs.inner.Coded.{code-of, kind-of, fixed-number}
 use Rattle.lexeme.specs.declared.Kind.{Kind}
 use Rattle.lexeme.specs.declared.Kind.the-variants as kind
 use Rattle.sentence.specs.Sentences as S
@@ -24,9 +24,9 @@ use Rattle.compiler.specs.declared.walk.Walk.{Walk}
 use Rattle.compiler.specs.declared.walk.Gives.{Gives}
 use Rattle.compiler.specs.declared.walk.Read.{Read}
 use Rattle.compiler.specs.declared.walk.Read.the-variants.{Done, Refused}
-use Rattle.compiler.specs.Steps.{moved-to, one-instruction, joined-walk, noted-walk, cell-of, cell-number, Past, Advances, Expects}
-use Rattle.tables.specs.Tables.{put, operand-of}
-use Rattle.compiler.specs.Walks.{Reads, Reads-factor, Ready, Lays, name-of}
+use Rattle.compiler.specs.inner.Steps.{moved-to, one-instruction, joined-walk, noted-walk, cell-of, cell-number, Past, Advances, Expects}
+use Rattle.tables.specs.inner.Tables.{put, operand-of}
+use Rattle.compiler.specs.inner.Walks.{Reads, Reads-factor, Ready, Lays, name-of}
 use Rattle.compiler.proofs.Lays.{trail, lead, lays-literal, lays-bracket, lays-first, lays-unsigned, lays-signed-plus, lays-signed-minus}
 use Rattle.compiler.proofs.Names.{noted-is, lays-variable}
 use Rattle.compiler.proofs.Looked.{flag-off, flag-on, going, literal-goes, name-goes, signs, Is-one, is-one}

@@ -9,14 +9,14 @@ use borrow.Fn.Kinds.{In}
 use borrow.Fn.PlainCycle.{Measures, is, falls, and}
 use lib.IntN.{ℤ, pos}
 use Rattle.lexeme.specs.Lexemes.{Name, NOT}
-use Rattle.lexeme.specs.Coded.{code-of, fixed-number}
+use Rattle.lexeme.specs.inner.Coded.{code-of, fixed-number}
 use Rattle.sentence.specs.Sentences as S
 use Rattle.sentence.specs.Sentences.{Sen, negated}
 use Rattle.compiler.specs.declared.walk.Walk.{Walk}
 use Rattle.compiler.specs.declared.walk.Gives.{Gives}
-use Rattle.compiler.specs.Steps.{one-instruction, Past}
-use Rattle.tables.specs.Tables.{put}
-use Rattle.compiler.specs.Walks.{Reads, Ready, Lays}
+use Rattle.compiler.specs.inner.Steps.{one-instruction, Past}
+use Rattle.tables.specs.inner.Tables.{put}
+use Rattle.compiler.specs.inner.Walks.{Reads, Ready, Lays}
 use Rattle.compiler.proofs.Lays.{lays-negated}
 use Rattle.compiler.proofs.Looked.{going}
 use Rattle.compiler.proofs.Passes.{condition-way, comparison-leads, negated-leads, negated-too-deep, lost-first}

@@ -2,7 +2,7 @@
 use mathlib.Core.Path.{sym, ap, _∙_}
 use native.Mathlib.Nat.{le-refl}
 use Rattle.sentence.proofs.Reader.{is-rel}
-use Rattle.compiler.specs.Walks.{Reads}
+use Rattle.compiler.specs.inner.Walks.{Reads}
 use Rattle.compiler.proofs.Looked.{flag-off, flag-on}
 use Rattle.compiler.proofs.Passes.{expression-way, comparison-way, comparison-refused, no-relation}
 use Rattle.compiler.proofs.Replies.{got, unsaid, barred, stopped, past, unread, ready-past, ready-got, fits-read, comparison-joins, right-lost, right-said}

@@ -4,7 +4,7 @@ use mathlib.Core.Path.{_≡_, refl}
 use native.Mathlib.Omega.{arith}
 use mir.Facts.{toZ-ofZ}
 use borrow.Author.Needs.{needs}
-use Rattle.compiler.specs.Steps.{Fits, put-after, joined-walk}
+use Rattle.compiler.specs.inner.Steps.{Fits, put-after, joined-walk}
 use Rattle.compiler.proofs.expression.joined.Statement.{statement}
 use Rattle.compiler.proofs.expression.joined.Tie as tie
 

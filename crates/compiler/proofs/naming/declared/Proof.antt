@@ -1,7 +1,7 @@
 -- `compiler::naming::declared` meets its contract. Assumes nothing.
 use mathlib.Core.Path.{sym, _∙_}
 use borrow.Author.Needs.{needs}
-use Rattle.compiler.specs.Steps.{declared-walk}
+use Rattle.compiler.specs.inner.Steps.{declared-walk}
 use Rattle.compiler.proofs.naming.declared.Statement.{statement}
 use Rattle.compiler.proofs.naming.declared.Tie as tie
 

@@ -1,5 +1,5 @@
 -- `compiler::naming::noted` meets its contract. Assumes nothing.
-use Rattle.compiler.specs.Steps.{noted-walk}
+use Rattle.compiler.specs.inner.Steps.{noted-walk}
 use borrow.Author.Needs.{needs}
 use Rattle.compiler.proofs.naming.noted.Statement.{statement}
 use Rattle.compiler.proofs.naming.noted.Tie as tie

@@ -2,7 +2,7 @@
 use mir.Syntax.{w32}
 use mir.Val.{SFits}
 use mir.Facts.{toZ-ofZ}
-use Rattle.compiler.specs.Steps.{cell-number}
+use Rattle.compiler.specs.inner.Steps.{cell-number}
 use borrow.Author.Needs.{needs}
 use Rattle.compiler.proofs.naming.operand.Statement.{statement}
 use Rattle.compiler.proofs.naming.operand.Tie as tie

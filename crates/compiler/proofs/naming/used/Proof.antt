@@ -5,7 +5,7 @@ use mir.Syntax.{w32}
 use mir.Val.{SFits}
 use mir.Facts.{toZ-ofZ}
 use borrow.Author.Needs.{needs}
-use Rattle.compiler.specs.Steps.{cell-of}
+use Rattle.compiler.specs.inner.Steps.{cell-of}
 use Rattle.compiler.proofs.Names.{noted-is}
 use Rattle.compiler.proofs.naming.used.Statement.{statement}
 use Rattle.compiler.proofs.naming.used.Tie as tie

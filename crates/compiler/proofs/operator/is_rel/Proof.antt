@@ -6,7 +6,7 @@ use Prim.Native.Nat.{ℕ, _≤_, _<_}
 use native.Mathlib.Nat.{eq-or-lt-of-le}
 use native.Mathlib.Omega.{arith}
 use borrow.Author.Tests.{ne-eqb}
-use Rattle.lexeme.specs.Coded.{code-of}
+use Rattle.lexeme.specs.inner.Coded.{code-of}
 use Rattle.sentence.proofs.Reader.{is-rel}
 use Rattle.compiler.proofs.operator.is_rel.Statement.{statement}
 use Rattle.compiler.proofs.operator.is_rel.Tie as tie

@@ -1,7 +1,7 @@
 -- `compiler::operator::operation` meets its contract. Assumes nothing.
 use borrow.Author.Tests.{ne-eqb}
 use Rattle.instruction.specs.Instructions.{number}
-use Rattle.compiler.specs.Steps.{operation-number}
+use Rattle.compiler.specs.inner.Steps.{operation-number}
 use Rattle.compiler.proofs.operator.operation.Statement.{statement}
 use Rattle.compiler.proofs.operator.operation.Tie as tie
 

@@ -1,7 +1,7 @@
 -- `compiler::walk::advance` meets its contract. Assumes nothing.
 use mathlib.Core.Path.{refl, sym, _∙_}
 use Rattle.lexeme.proofs.Places.{next-stands}
-use Rattle.compiler.specs.Steps.{moved-to, Advances}
+use Rattle.compiler.specs.inner.Steps.{moved-to, Advances}
 use borrow.Author.Needs.{needs}
 use Rattle.compiler.proofs.walk.advance.Statement.{statement}
 use Rattle.compiler.proofs.walk.advance.Tie as tie

@@ -1,7 +1,7 @@
 -- `compiler::walk::expect` meets its contract. Assumes nothing.
 use mathlib.Core.Path.{refl, sym, _∙_}
 use mathlib.Core.Logic.{inl, inr}
-use Rattle.compiler.specs.Steps.{Expects}
+use Rattle.compiler.specs.inner.Steps.{Expects}
 use borrow.Author.Needs.{needs}
 use Rattle.compiler.proofs.walk.expect.Statement.{statement}
 use Rattle.compiler.proofs.walk.expect.Tie as tie

@@ -1,5 +1,5 @@
 -- `compiler::walk::faulted` meets its contract. Assumes nothing.
-use Rattle.compiler.specs.Steps.{faulted-walk, first-fault}
+use Rattle.compiler.specs.inner.Steps.{faulted-walk, first-fault}
 use borrow.Author.Needs.{needs}
 use Rattle.compiler.proofs.walk.faulted.Statement.{statement}
 use Rattle.compiler.proofs.walk.faulted.Tie as tie

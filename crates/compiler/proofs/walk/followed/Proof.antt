@@ -2,7 +2,7 @@
 use mathlib.Core.Path.{refl}
 use mir.Facts.{toZ-ofZ}
 use borrow.Author.Needs.{needs}
-use Rattle.compiler.specs.Steps.{Fits, put-after, followed-by}
+use Rattle.compiler.specs.inner.Steps.{Fits, put-after, followed-by}
 use Rattle.compiler.proofs.walk.followed.Statement.{statement}
 use Rattle.compiler.proofs.walk.followed.Tie as tie
 

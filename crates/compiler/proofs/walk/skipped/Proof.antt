@@ -1,6 +1,6 @@
 -- `compiler::walk::skipped` meets its contract. Assumes nothing.
 use mathlib.Core.Path.{refl}
-use Rattle.compiler.specs.Steps.{one-instruction}
+use Rattle.compiler.specs.inner.Steps.{one-instruction}
 use borrow.Author.Needs.{needs}
 use Rattle.compiler.proofs.walk.skipped.Statement.{statement}
 use Rattle.compiler.proofs.walk.skipped.Tie as tie

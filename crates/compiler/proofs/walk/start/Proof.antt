@@ -1,6 +1,6 @@
 -- `compiler::walk::start` meets its contract. Assumes nothing.
 use mathlib.Core.Path.{refl}
-use Rattle.lexeme.specs.Coded.{code-of}
+use Rattle.lexeme.specs.inner.Coded.{code-of}
 use Rattle.compiler.proofs.walk.start.Statement.{statement}
 use Rattle.compiler.proofs.walk.start.Tie as tie
 

@@ -1,6 +1,6 @@
 -- `print::print_str` meets its contract. Assumes nothing.
 use denote.Ref.{now}
-use Rattle.base.specs.Kinds.{such}
+use Rattle.base.specs.inner.Kinds.{such}
 use Rattle.machine.proofs.Steps.{stops, also}
 use Rattle.machine.proofs.Strings.{not-closed, is-closed, the-string}
 use borrow.Author.Needs.{needs}

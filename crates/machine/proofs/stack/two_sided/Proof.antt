@@ -10,7 +10,7 @@ use mir.Facts.{toZ-ofZ}
 use Rattle.instruction.specs.Numbers.{calculate}
 use Rattle.instruction.specs.Instructions.{two-sided, effect}
 use Rattle.machine.specs.Machine.{names-well, does, tried}
-use Rattle.instruction.specs.Coded.{as-result, as-two-sided}
+use Rattle.instruction.specs.inner.Coded.{as-result, as-two-sided}
 use Rattle.machine.proofs.Cells.{live-first, live-second}
 use Rattle.machine.proofs.Steps.{stops, few, works, does-put}
 use borrow.Author.Needs.{needs}

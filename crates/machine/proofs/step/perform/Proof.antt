@@ -7,11 +7,11 @@ use mir.Syntax.{w32}
 use mir.Val.{SFits}
 use mir.Facts.{toZ-ofZ}
 use Rattle.instruction.specs.declared.decode.Op.{Op}
-use Rattle.instruction.specs.Coded.{as-instruction}
+use Rattle.instruction.specs.inner.Coded.{as-instruction}
 use Rattle.machine.specs.Machine as M
 use Rattle.machine.specs.declared.state.State.{State}
 use Rattle.machine.specs.declared.state.Move.{Move}
-use Rattle.machine.specs.Coded.{Did}
+use Rattle.machine.specs.inner.Coded.{Did}
 use Rattle.machine.proofs.Steps.{stops, halts, says, also}
 use borrow.Author.Needs.{needs}
 use Rattle.machine.proofs.step.perform.Statement.{statement}

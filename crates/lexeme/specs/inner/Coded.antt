@@ -7,7 +7,7 @@ use Prim.Native.Char.{code}
 use lib.Dec.{eqb, ltb}
 use lib.ListN.{length}
 use Rattle.base.specs.Answers.{Answer, given, refused}
-use Rattle.base.specs.Bytes.{part}
+use Rattle.base.specs.inner.Parts.{part}
 use Rattle.lexeme.specs.Lexemes.{Sizes, Symbol, symbols, Keyword, keywords, Fixed, becomes, equals-sign, comma, dot, greater-sign, less-sign, plus-sign, minus-sign, star, slash, open-round, close-round, open-square, close-square, open-brace, close-brace, CALL, CLASS, DO, ERROR, FIELDS, IF, INIT, INT, METHOD, NOT, OBJ, PRINTI, PRINTLNS, PRINTS, PROCEDURE, READ, RETURNS, SUBCLASSOF, THEN, USING, WHILE, end, lit, name, class, string, fixed, Placed, Next, lexeme, nothing, next}
 use Rattle.lexeme.specs.Lexemes as lexemes
 use Rattle.lexeme.specs.declared.Kind.{Kind}

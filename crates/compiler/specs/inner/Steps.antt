@@ -9,16 +9,16 @@ use lib.Dec.{ltb, eqb}
 use lib.IntN.{ℤ, pos}
 use Rattle.base.specs.declared.Refusal.{Refusal}
 use Rattle.base.specs.declared.Refusal.the-variants.{NoProgram, Undeclared, TooManyDeclared}
-use Rattle.base.specs.Bytes.{part}
+use Rattle.base.specs.inner.Parts.{part}
 use Rattle.lexeme.specs.Lexemes as L
 use Rattle.lexeme.specs.Lexemes.{DO, IF, THEN, WHILE, open-brace, end, next}
-use Rattle.lexeme.specs.Coded.{code-of, coded, fixed-number, Stands}
+use Rattle.lexeme.specs.inner.Coded.{code-of, coded, fixed-number, Stands}
 use Rattle.lexeme.specs.declared.Kind.the-variants as kind
 use Rattle.lexeme.specs.declared.Lexeme.{Lexeme}
 use Rattle.lexeme.specs.declared.Found.the-variants as reply
 use Rattle.names.specs.declared.Cell.{Cell}
 use Rattle.names.specs.declared.Cell.the-variants.{At, Nowhere}
-use Rattle.names.specs.Held.{counts, room, visible-in, latest}
+use Rattle.names.specs.inner.Held.{counts, room, visible-in, latest}
 use Rattle.instruction.specs.Numbers.{plus, minus, times, divide, equals, smaller, greater}
 use Rattle.instruction.specs.Instructions.{jump, print-str, print-str-ln, number, encode, opcode}
 use Rattle.compiler.specs.declared.walk.Walk.{Walk}
@@ -27,7 +27,7 @@ use Rattle.tables.specs.declared.NameFault.{NameFault}
 use Rattle.tables.specs.declared.NameFault.the-variants.{Nothing, Is}
 use Rattle.compiler.specs.declared.walk.Read.{Read}
 use Rattle.compiler.specs.declared.walk.Read.the-variants.{Done, Refused}
-use Rattle.tables.specs.Tables.{put, operand-of}
+use Rattle.tables.specs.inner.Tables.{put, operand-of}
 
 -- ---- the walk
 

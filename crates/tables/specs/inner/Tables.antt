@@ -1,7 +1,7 @@
--- How the code writes a table: a pair at a time, as far as the table has room; and a table that holds a code.
-use mathlib.Core.List.{List, [], _∷_, _++_}
+-- How the code writes a table: a pair at a time, as far as the table has room.
+use mathlib.Core.List.{List, [], _∷_}
 use mathlib.Core.Bool.{cond}
-use Prim.Native.Nat.{ℕ, suc, _-_, _*_, _/_}
+use Prim.Native.Nat.{ℕ, suc, _*_, _/_}
 use lib.Dec.{ltb}
 use lib.IntN.{ℤ, pos}
 use lib.ListN.{length, replicate}
@@ -24,7 +24,3 @@ emit table n (i ∷ is) = emit (put table n (encode i [])) (suc n) is
 -- one `PushInt 0` for each cell
 unfoldable pub opening : ℕ → List ℤ → List ℤ
 opening cells table = emit table 0 (replicate cells (push-int (pos 0)))
-
--- the code's numbers, then zeros, in a table of so many numbers
-unfoldable pub filled : ℕ → List ℤ → List ℤ
-filled n code = code ++ replicate (n - length code) (pos 0)

@@ -8,17 +8,17 @@ use lib.IntN.{ℤ}
 use lib.ListN.{length, getD}
 use Rattle.base.specs.declared.Refusal.{Refusal}
 use Rattle.base.specs.declared.Refusal.the-variants.{NoProgram, TooDeep}
-use Rattle.base.specs.Bytes.{part}
+use Rattle.base.specs.inner.Parts.{part}
 use Rattle.base.specs.Answers.{Answer, given, refused, pass}
 use Rattle.lexeme.specs.Lexemes as L
 use Rattle.lexeme.specs.Lexemes.{Name, Placed, WHILE, open-brace, next}
-use Rattle.lexeme.specs.Coded.{code-of, coded, Stands, Ahead}
+use Rattle.lexeme.specs.inner.Coded.{code-of, coded, Stands, Ahead}
 use Rattle.lexeme.specs.declared.Lexeme.{Lexeme}
 use Rattle.lexeme.specs.declared.Found.the-variants as reply
 use Rattle.sentence.specs.Sentences.{Kind, Sen, factor, term, expression, condition, command, commands}
 use Rattle.sentence.proofs.Reader.{Around, depth, State, in-first, in-left, in-print, in-while, in-when, in-block, want-factor, want-expression, want-condition, want-command, want-line, want-string, want-declared, want-read, want-becomes, step, verdict, goes-on, is-whole, begins-none, whole, read-from, read, got-factor, whole-term, after-expression, whole-expression, after-condition, after-command}
 use Rattle.names.specs.Names.{Scope, Known, resolve}
-use Rattle.names.specs.Held.{counts, room, scope-in, Sound, Kept}
+use Rattle.names.specs.inner.Held.{counts, room, scope-in, Sound, Kept}
 use Rattle.meaning.specs.Layout as layout
 use Rattle.meaning.proofs.Sizes.{size}
 use Rattle.compiler.specs.declared.walk.Walk.{Walk}
@@ -27,8 +27,8 @@ use Rattle.tables.specs.declared.NameFault.{NameFault}
 use Rattle.tables.specs.declared.NameFault.the-variants.{Nothing, Is}
 use Rattle.compiler.specs.declared.walk.Read.{Read}
 use Rattle.compiler.specs.declared.walk.Read.the-variants.{Done, Refused}
-use Rattle.compiler.specs.Steps.{start-at, Past}
-use Rattle.tables.specs.Tables.{emit}
+use Rattle.compiler.specs.inner.Steps.{start-at, Past}
+use Rattle.tables.specs.inner.Tables.{emit}
 
 -- ---- reading
 

@@ -6,7 +6,8 @@ use Prim.Native.Nat.{ℕ, zero, suc, _+_, _*_, _-_, _/_, _≤_, _<_, min}
 use lib.Dec.{ltb}
 use lib.ListN.{length, getD}
 use lib.Seq.{sets}
-use Rattle.base.specs.Bytes.{part, same}
+use Rattle.base.specs.Bytes.{same}
+use Rattle.base.specs.inner.Parts.{part}
 use Rattle.names.specs.Names as N
 use Rattle.names.specs.Names.{Declaration}
 use Rattle.names.specs.declared.Scope.{Scope}

@@ -15,7 +15,7 @@ use Rattle.sentence.proofs.Reader.{read}
 use Rattle.names.specs.Names.{Known, resolved}
 use Rattle.meaning.specs.Layout.{program-code}
 use Rattle.tables.specs.declared.Answer.{Answer}
-use Rattle.tables.specs.Tables.{emit}
+use Rattle.tables.specs.inner.Tables.{emit}
 use Rattle.compiler.specs.Answers.{answered}
 use Rattle.compiler.specs.Compiled.{Accepted, code-of-text, over-cells}
 
