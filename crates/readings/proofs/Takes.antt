@@ -48,7 +48,7 @@ few (suc n) s = by-word (few n (past other (past separator s))) (reading (run ot
     by-word h (some z) = omega arith
 
 pub at-start : (l : List ℤ) (s : List ℕ) → takes (record { phase = Between; count = 0 }) l s ≡ taken-in l s
-unfolding effect left taken-in
+unfolding takes left taken-in
 at-start l s =
     let e : length l - 0 ≡ length l = omega arith in
     rw e (all-stored l (readings (length l) s) (few (length l) s))
@@ -81,11 +81,11 @@ module _ (s t : List ℕ) (ends : run other s ≡ []) (same : (n : ℕ) → read
 -- ---- a byte
 
 pub at-separator : (h : Both) (b : ℕ) (s : List ℕ) → separator b ≡ true → takes (ended h .reader) (ended h .numbers) s ≡ takes (h .reader) (h .numbers) (b ∷ s)
-unfolding effect left ended
+unfolding takes left ended
 at-separator h b s e = word-ends (b ∷ s) s (separates b s e) (λ n. sym (skip n b s e)) (λ x. takes (x .reader) (x .numbers) s) (λ k l. refl) (λ k l. refl) (h .reader .phase) (h .reader .count) (h .numbers)
 
 pub at-other : (r : Reader) (l : List ℤ) (b : ℕ) (s : List ℕ) → separator b ≡ false → takes (record { phase = word-more (r .phase) b; count = r .count }) l s ≡ takes r l (b ∷ s)
-unfolding effect
+unfolding takes
 at-other r l b s e = ap (stored-after (r .count) l) (left-on b s e (length l - r .count) (r .phase))
 
 -- ---- the end of the input
@@ -96,7 +96,7 @@ none-left zero = refl
 none-left (suc m) = refl
 
 pub at-end : (h : Both) → record { count = ended h .reader .count; numbers = ended h .numbers } ≡ takes (h .reader) (h .numbers) []
-unfolding effect ended run
+unfolding takes ended run
 at-end h = word-ends [] [] refl (λ n. refl) (λ x. record { count = x .reader .count; numbers = x .numbers }) (λ k l. rw (none-left (length l - k)) (none-stored k l)) none-stored (h .reader .phase) (h .reader .count) (h .numbers)
 
 -- ---- where the readings are over
@@ -111,7 +111,7 @@ none-over Over m s e = refl
 
 -- no byte that follows changes anything
 pub over-stays : (r : Reader) (l : List ℤ) (s : List ℕ) → over r l ≡ true → takes r l s ≡ takes r l []
-unfolding effect over stopped left
+unfolding takes over stopped left
 over-stays r l s e = ap (stored-after (r .count) l) (by-phase (r .phase) e)
   where
     full : (p : Phase) → leb (length l) (r .count) ≡ true → left (length l - r .count) p s ≡ left (length l - r .count) p []
