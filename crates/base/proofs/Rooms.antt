@@ -1,12 +1,12 @@
 -- Laws of a print: the bytes that are copied, with a line feed after them or without, are what is to be printed. Assumes nothing.
-use mathlib.Core.Path.{_≡_, refl, sym, ap, _∙_}
+use mathlib.Core.Path.{_≡_, refl, _∙_}
 use mathlib.Core.List.{List, [], _∷_, _++_}
 use mathlib.Core.Bool.{Bool, true, false}
 use Prim.Native.Nat.{ℕ, suc, _+_, _≤_, _<_}
 use native.Mathlib.Nat.{le-refl}
 use native.Mathlib.Numerals.{add-one}
 use native.Mathlib.Omega.{arith}
-use lib.ListN.{length, getD, take, drop, set, length-append}
+use lib.ListN.{length, getD, take, set, length-append}
 use lib.Seq.{paste, paste-suc, take-at, take-length, getD-at}
 use borrow.Author.Tests.{le-leb, lt-leb}
 use Rattle.base.specs.declared.Printed.the-variants.{UpTo, DoesNotFit}

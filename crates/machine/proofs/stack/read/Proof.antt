@@ -10,7 +10,7 @@ use denote.Ref.{now}
 use mir.Syntax.{w32}
 use mir.Facts.{toZ-ofZ}
 use Rattle.instruction.specs.Instructions.{read, effect}
-use Rattle.machine.specs.Machine.{Machine, pushed, taken, reading, one-used, names-well, does, tried}
+use Rattle.machine.specs.Machine.{pushed, taken, reading, one-used, names-well, does, tried}
 use Rattle.machine.proofs.Steps.{stops, full, works, also, does-push, no-more, one-more}
 use borrow.Author.Needs.{needs}
 use Rattle.machine.proofs.stack.read.Statement.{statement}
