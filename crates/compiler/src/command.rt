@@ -4,7 +4,7 @@ ghost use mathlib.Core.Bool.{false};
 ghost use Prim.Native.Nat.{suc, _<_};
 ghost use Rattle.lexeme.specs.inner.Coded.{code-of, fixed-number};
 ghost use Rattle.compiler.specs.inner.Steps.{moved-to, printing-number, has-body, before-body, ended-walk, ended-table};
-ghost use Rattle.compiler.specs.inner.Walks.{Ready, First, Reads-command, Reads-print, Reads-string, Reads-declare, Reads-read, Reads-assign, Reads-nested, Reads-guarded, Reads-block};
+ghost use Rattle.compiler.specs.inner.Walks.{Ready, First, Reads-command, Reads-print, Reads-string, Reads-declare, Reads-read, Reads-assign, Reads-guarded, Reads-block};
 use crate::expression;
 use crate::naming;
 use crate::walk;
@@ -188,18 +188,10 @@ pub fn command(allow: usize, text: &[u8], names: &mut [usize], table: &mut [i32]
     if allow == 0 {
         return Read::Refused(Refusal::TooDeep, l.place);
     }
-    nested(allow - 1, text, names, table, x, f)
-}
-
-// After IF, WHILE or `{`, with so many nestings allowed inside.
-fn nested(allow: usize, text: &[u8], names: &mut [usize], table: &mut [i32], w: Walk, f: u8) -> Read
-    requires { ⌜ Ready (now text) (now names) w (suc allow) ⌝ }
-    ensures { λ r. ⌜ Reads-nested f (now (text .entry)) (now (names .entry)) (now (table .entry)) w allow r (now (names .exit)) (now (table .exit)) ⌝ }
-{
     if f == b'{' {
-        return block(allow, text, names, table, w);
+        return block(allow - 1, text, names, table, x);
     }
-    guarded(allow, text, names, table, w, f == fixed::WHILE)
+    guarded(allow - 1, text, names, table, x, f == fixed::WHILE)
 }
 
 // After IF, or after WHILE, whose body is done again; with so many nestings allowed inside.

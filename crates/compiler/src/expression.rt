@@ -1,11 +1,8 @@
 // Expressions and conditions: one walk reads and translates. Repetition is by loops; only brackets and NOT recurse.
 ghost use mathlib.Core.Path.{_≡_};
 ghost use mathlib.Core.List.{[], _∷_};
-ghost use Prim.Native.Nat.{suc};
 ghost use lib.IntN.{pos};
-ghost use Rattle.lexeme.specs.Lexemes.{open-round};
-ghost use Rattle.lexeme.specs.inner.Coded.{code-of, fixed-number};
-ghost use Rattle.compiler.specs.inner.Steps.{Fits, put-after, joined-walk, operation-number};
+ghost use Rattle.compiler.specs.inner.Steps.{No-operand, Fits, put-after, joined-walk, operation-number};
 ghost use Rattle.compiler.specs.inner.Walks.{Ready, Reads-factor, Reads-term, Reads-first-term, Reads-expression, Reads-condition, Reads-comparison};
 use crate::naming;
 use crate::operator;
@@ -33,31 +30,28 @@ fn factor(allow: usize, text: &[u8], names: &[usize], table: &mut [i32], w: Walk
             let x = naming::used(text, names, table, w, operations::LOAD_STACK);
             walk::advance(text, x, 1)
         }
-        Kind::Class => Read::Refused(Refusal::NoProgram, l.place),
-        Kind::Str => Read::Refused(Refusal::NoProgram, l.place),
-        Kind::Fixed(f) => {
-            if f != b'(' {
-                return Read::Refused(Refusal::NoProgram, l.place);
-            }
-            if allow == 0 {
-                return Read::Refused(Refusal::TooDeep, l.place);
-            }
-            bracket(allow - 1, text, names, table, w)
-        }
+        _ => bracket(allow, text, names, table, w),
     }
 }
 
-// `(`, an Expression, `)`, with so many nestings allowed inside.
+// `(`, an Expression, `)`. Nothing else begins a Factor that is no literal and no name.
 fn bracket(allow: usize, text: &[u8], names: &[usize], table: &mut [i32], w: Walk) -> Read
-    requires { ⌜ Ready (now text) (now names) w (suc allow) ⌝ }
-    requires { ⌜ fixed-number (w .next .kind) ≡ code-of open-round ⌝ }
-    ensures { λ r. ⌜ Reads-factor (now (text .entry)) (now (names .entry)) (now (table .entry)) w (suc allow) r (now (names .entry)) (now (table .exit)) ⌝ }
+    requires { ⌜ Ready (now text) (now names) w allow ⌝ }
+    requires { ⌜ No-operand (w .next .kind) ⌝ }
+    ensures { λ r. ⌜ Reads-factor (now (text .entry)) (now (names .entry)) (now (table .entry)) w allow r (now (names .entry)) (now (table .exit)) ⌝ }
 {
+    let l = w.next;
+    if walk::fixed_ahead(w) != b'(' {
+        return Read::Refused(Refusal::NoProgram, l.place);
+    }
+    if allow == 0 {
+        return Read::Refused(Refusal::TooDeep, l.place);
+    }
     let a = walk::advance(text, w, 0);
     let Read::Done(x, _) = a else {
         return a;
     };
-    let r = expression(allow, text, names, table, x);
+    let r = expression(allow - 1, text, names, table, x);
     let Read::Done(y, g) = r else {
         return r;
     };

@@ -13,6 +13,7 @@ use Rattle.base.specs.inner.Parts.{part}
 use Rattle.lexeme.specs.Lexemes as L
 use Rattle.lexeme.specs.Lexemes.{DO, IF, THEN, WHILE, open-brace, end, next}
 use Rattle.lexeme.specs.inner.Coded.{code-of, coded, fixed-number, Stands}
+use Rattle.lexeme.specs.declared.Kind.{Kind}
 use Rattle.lexeme.specs.declared.Kind.the-variants as kind
 use Rattle.lexeme.specs.declared.Lexeme.{Lexeme}
 use Rattle.lexeme.specs.declared.Found.the-variants as reply
@@ -68,6 +69,11 @@ Advances text w need (Refused why p) = reply.Refused why p ≡ coded (next text 
 -- the lexeme ahead has this number as a fixed one, and is passed; or it has not, and no Program goes on so
 unfoldable pub Expects : List ℕ → Walk → ℕ → ℕ → Read → Type 0
 Expects text w f need r = ((fixed-number (w .next .kind) ≡ f) × Advances text w need r) ⊎ ((fixed-number (w .next .kind) ≡ f → ⊥) × (r ≡ Refused NoProgram (w .next .place)))
+
+-- ---- a lexeme of this kind is no literal and no name
+
+abbrev pub No-operand : Kind → Type 0
+No-operand k = ((v : ℕ) → k ≡ kind.Literal v → ⊥) × (k ≡ kind.Name → ⊥)
 
 -- ---- the operation of PRINTLNS, which prints a line, or of PRINTS
 

@@ -177,9 +177,6 @@ Reads-block = λ text names table w allow. Reads command (λ a. want-command (in
 unfoldable pub want-nested : ℕ → Around command → State
 want-nested f = cond (eqb f (code-of open-brace)) (λ a. want-command (in-block a)) (want-guarded (eqb f (code-of WHILE)))
 
-abbrev pub Reads-nested : ℕ → Reading
-Reads-nested f = λ text names table w allow. Reads command (want-nested f) after-command text names table w (suc allow)
-
 -- ---- a whole Program
 
 pub record Set-out (text names : List ℕ) (from : ℕ) : Type 0 where

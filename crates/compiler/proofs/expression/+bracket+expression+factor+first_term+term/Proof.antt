@@ -10,12 +10,15 @@ use borrow.Fn.Kinds.{In}
 use borrow.Fn.PlainCycle.{Measures, is, falls, and}
 use mir.Facts.{toZ-ofZ}
 use denote.Ref.{now}
+use denote.Enum.Declared.{tagOf}
+use types.Run.{OneOf, miss}
 use lib.IntN.{ℤ, pos}
 use lib.ListN.{length}
 use Rattle.lexeme.specs.Lexemes.{Name, close-round, open-round}
 use Rattle.lexeme.specs.inner.Coded.{code-of, kind-of, fixed-number}
 use Rattle.lexeme.specs.declared.Kind.{Kind}
 use Rattle.lexeme.specs.declared.Kind.the-variants as kind
+use Rattle.lexeme.proofs.Kind.{the-type}
 use Rattle.sentence.specs.Sentences as S
 use Rattle.sentence.specs.Sentences.{Sen, Sign, plus, minus, sign}
 use Rattle.sentence.proofs.Reader.{is-sign, is-mul}
@@ -24,7 +27,7 @@ use Rattle.compiler.specs.declared.walk.Walk.{Walk}
 use Rattle.compiler.specs.declared.walk.Gives.{Gives}
 use Rattle.compiler.specs.declared.walk.Read.{Read}
 use Rattle.compiler.specs.declared.walk.Read.the-variants.{Done, Refused}
-use Rattle.compiler.specs.inner.Steps.{moved-to, one-instruction, joined-walk, noted-walk, cell-of, cell-number, Past, Advances, Expects}
+use Rattle.compiler.specs.inner.Steps.{No-operand, moved-to, one-instruction, joined-walk, noted-walk, cell-of, cell-number, Past, Advances, Expects}
 use Rattle.tables.specs.inner.Tables.{put, operand-of}
 use Rattle.compiler.specs.inner.Walks.{Reads, Reads-factor, Ready, Lays, name-of}
 use Rattle.compiler.proofs.Lays.{trail, lead, lays-literal, lays-bracket, lays-first, lays-unsigned, lays-signed-plus, lays-signed-minus}
@@ -65,31 +68,12 @@ use Rattle.compiler.proofs.expression.+bracket+expression+factor+first_
   close,
 }
 
--- a class name, a string and a fixed lexeme are no literal and no name
-abbrev No-operand : Kind → Type 0
-No-operand k = ((v : ℕ) → k ≡ kind.Literal v → ⊥) × (k ≡ kind.Name → ⊥)
+-- what is left when a literal and a name are taken away
+abbrev no-operands : List ℕ
+no-operands = 2 ∷ 3 ∷ 4 ∷ []
 
-module _ {k : Kind} where
-  class-none : k ≡ kind.Class → No-operand k
-  class-none e = ((λ v h. let z : _≡_ {A = ℕ} 0 1 = cc in omega arith), λ h. let z : _≡_ {A = ℕ} 0 1 = cc in omega arith)
-
-  string-none : k ≡ kind.Str → No-operand k
-  string-none e = ((λ v h. let z : _≡_ {A = ℕ} 0 1 = cc in omega arith), λ h. let z : _≡_ {A = ℕ} 0 1 = cc in omega arith)
-
-  fixed-none : {f : ℕ} → k ≡ kind.Fixed f → No-operand k
-  fixed-none e = ((λ v h. let z : _≡_ {A = ℕ} 0 1 = cc in omega arith), λ h. let z : _≡_ {A = ℕ} 0 1 = cc in omega arith)
-
-  class-number : k ≡ kind.Class → fixed-number k ≡ code-of open-round → ⊥
-  unfolding fixed-number code-of
-  class-number e h = let z : _≡_ {A = ℕ} 255 40 = sym (ap fixed-number e) ∙ h in omega arith
-
-  string-number : k ≡ kind.Str → fixed-number k ≡ code-of open-round → ⊥
-  unfolding fixed-number code-of
-  string-number e h = let z : _≡_ {A = ℕ} 255 40 = sym (ap fixed-number e) ∙ h in omega arith
-
-  fixed-is : {f : ℕ} → k ≡ kind.Fixed f → fixed-number k ≡ f
-  unfolding fixed-number
-  fixed-is e = ap fixed-number e
+no-operand : {k : Kind} → OneOf no-operands (tagOf the-type k) → No-operand k
+no-operand t = ((λ v e. miss no-operands 0 tt (subst (λ (x : Kind). OneOf no-operands (tagOf the-type x)) e t)), λ e. miss no-operands 1 tt (subst (λ (x : Kind). OneOf no-operands (tagOf the-type x)) e t))
 
 -- one nesting more than is allowed inside is what is allowed
 one-allowed : {text names : List ℕ} {w : Walk} {allow : ℕ} → Ready text names w allow → (allow ≡ 0 → ⊥) → Ready text names w (suc (allow - 1))
@@ -175,19 +159,19 @@ module _ {text names : List ℕ} {table table′ : List ℤ} {w x : Walk} {allow
       by minus e = absurd (e minus-number)
 
 abbrev μ-bracket : Measures 3 bracket-kinds.ps ℕ
-μ-bracket κs a = a .0 * 5 + 4
+μ-bracket κs a = a .0 * 5
 
 abbrev μ-expression : Measures 3 expression-kinds.ps ℕ
-μ-expression κs a = a .0 * 5 + 3
+μ-expression κs a = a .0 * 5 + 4
 
 abbrev μ-factor : Measures 3 factor-kinds.ps ℕ
-μ-factor κs a = a .0 * 5
+μ-factor κs a = a .0 * 5 + 1
 
 abbrev μ-first-term : Measures 3 first-term-kinds.ps ℕ
-μ-first-term κs a = a .0 * 5 + 2
+μ-first-term κs a = a .0 * 5 + 3
 
 abbrev μ-term : Measures 3 term-kinds.ps ℕ
-μ-term κs a = a .0 * 5 + 1
+μ-term κs a = a .0 * 5 + 2
 
 abbrev bracket-at : ℕ → In 3 bracket-kinds.ps
 bracket-at t = and 3 bracket-kinds.ps (is 3 bracket-kinds.ps μ-bracket t) bracket.Pre
@@ -224,7 +208,7 @@ abbrev term-below : ℕ → In 3 term-kinds.ps
 term-below t = and 3 term-kinds.ps (falls 3 term-kinds.ps _<_ μ-term t) term.Pre
 
 abbrev bracket-calls : ℕ → bracket-lts.Claims
-bracket-calls t = (advance-reads.Asked, advance-reads.Learnt, expression-below t, expression.Post, expect-reads.Asked, expect-reads.Learnt)
+bracket-calls t = (fixed-ahead-reads.Asked, fixed-ahead-reads.Learnt, advance-reads.Asked, advance-reads.Learnt, expression-below t, expression.Post, expect-reads.Asked, expect-reads.Learnt)
 
 abbrev expression-calls : ℕ → expression-lts.Claims
 expression-calls t = (first-term-below t, first-term.Post, fixed-ahead-reads.Asked, fixed-ahead-reads.Learnt, is-sign-reads.Asked, is-sign-reads.Learnt, advance-reads.Asked, advance-reads.Learnt, term-below t, term.Post, joined-reads.Asked, joined-reads.Learnt)
@@ -238,26 +222,34 @@ first-term-calls t = (fixed-ahead-reads.Asked, fixed-ahead-reads.Learnt, is-sign
 abbrev term-calls : ℕ → term-lts.Claims
 term-calls t = (factor-below t, factor.Post, fixed-ahead-reads.Asked, fixed-ahead-reads.Learnt, is-mul-reads.Asked, is-mul-reads.Learnt, advance-reads.Asked, advance-reads.Learnt, joined-reads.Asked, joined-reads.Learnt)
 
-bracket-advance-requires : (t : ℕ) → bracket-lts.Need-advance-requires (bracket-calls t) (bracket-at t) bracket.Post
-bracket-advance-requires t c κs = c .before .before .pre .1 .0 .stands .within
-
 bracket-returns : (t : ℕ) → bracket-lts.Need-returns (bracket-calls t) (bracket-at t) bracket.Post
-unfolding code-of
-bracket-returns t c = stopped factor-way _ _ _ _ _ _ _ (c .enum-told .given .1) (lost-first factor-way _ _ _ (going (c .before .before .before .before .before .args .w .next) (c .before .before .before .before .before .pre .1 .1) (λ z. omega arith)) (unread _ _ _ (c .before .before .advance .ensures) (c .enum-told .given .1)))
-
-bracket-expression-requires : (t : ℕ) → bracket-lts.Need-expression-requires (bracket-calls t) (bracket-at t) bracket.Post
-bracket-expression-requires t c κs = (omega arith, ready-past (c .before .before .before .before .before .before .before .pre .1 .0) _ (omega arith) (past _ _ _ (c .before .before .before .before .advance .ensures) (c .before .before .a .given .1)))
+unfolding Reads code-of
+bracket-returns t c = no-factor (c .before .before .before .before .before .pre .1 .0 .stands) _ (c .before .before .before .before .before .pre .1 .1 .0) (c .before .before .before .before .before .pre .1 .1 .1) (λ e. c .if1 .taken (c .before .fixed-ahead .ensures ∙ e))
 
 bracket-returns-2 : (t : ℕ) → bracket-lts.Need-returns-2 (bracket-calls t) (bracket-at t) bracket.Post
+unfolding Reads code-of
+bracket-returns-2 t c = bracket-too-deep (c .before .before .before .before .before .before .pre .1 .0 .stands) _ (sym (c .before .before .fixed-ahead .ensures) ∙ c .before .if1 .left) (c .if2 .taken)
+
+bracket-advance-requires : (t : ℕ) → bracket-lts.Need-advance-requires (bracket-calls t) (bracket-at t) bracket.Post
+bracket-advance-requires t c κs = c .before .before .before .before .before .before .pre .1 .0 .stands .within
+
+bracket-returns-3 : (t : ℕ) → bracket-lts.Need-returns-3 (bracket-calls t) (bracket-at t) bracket.Post
 unfolding code-of
-bracket-returns-2 t c = stopped factor-way _ _ _ _ _ _ _ (c .enum-told2 .given .1) (bracket-refused (c .before .before .before .before .before .before .before .before .before .before .before .pre .1 .0 .stands) _ (c .before .before .before .before .before .before .before .before .before .before .before .pre .1 .1) (past _ _ _ (c .before .before .before .before .before .before .before .before .advance .ensures) (c .before .before .before .before .before .before .a .given .1) .follows) _ _ (barred expression-way _ _ _ _ _ _ _ (c .enum-told2 .given .1) (c .before .before .before .expression .ensures)))
+bracket-returns-3 t c = stopped factor-way _ _ _ _ _ _ _ (c .enum-told .given .1) (lost-first factor-way _ _ _ (going (c .before .before .before .before .before .before .before .before .before .args .w .next) (sym (c .before .before .before .before .before .fixed-ahead .ensures) ∙ c .before .before .before .before .if1 .left) (λ z. omega arith)) (unread _ _ _ (c .before .before .advance .ensures) (c .enum-told .given .1)))
+
+bracket-expression-requires : (t : ℕ) → bracket-lts.Need-expression-requires (bracket-calls t) (bracket-at t) bracket.Post
+bracket-expression-requires t c κs = (omega (arith, c .before .before .before .before .before .before .before .before .before .before .before .pre .0, c .before .before .before .before .before .if2 .left), ready-past (c .before .before .before .before .before .before .before .before .before .before .before .pre .1 .0) _ (omega arith) (past _ _ _ (c .before .before .before .before .advance .ensures) (c .before .before .a .given .1)))
+
+bracket-returns-4 : (t : ℕ) → bracket-lts.Need-returns-4 (bracket-calls t) (bracket-at t) bracket.Post
+unfolding code-of
+bracket-returns-4 t c = one-read _ _ _ _ _ _ _ _ (c .before .before .before .before .before .before .before .before .before .if2 .left) (stopped factor-way _ _ _ _ _ _ _ (c .enum-told2 .given .1) (bracket-refused (c .before .before .before .before .before .before .before .before .before .before .before .before .before .before .before .pre .1 .0 .stands) _ (sym (c .before .before .before .before .before .before .before .before .before .before .before .fixed-ahead .ensures) ∙ c .before .before .before .before .before .before .before .before .before .before .if1 .left) (past _ _ _ (c .before .before .before .before .before .before .before .before .advance .ensures) (c .before .before .before .before .before .before .a .given .1) .follows) _ _ (barred expression-way _ _ _ _ _ _ _ (c .enum-told2 .given .1) (c .before .before .before .expression .ensures))))
 
 bracket-expect-requires : (t : ℕ) → bracket-lts.Need-expect-requires (bracket-calls t) (bracket-at t) bracket.Post
 bracket-expect-requires t c κs = got expression-way (c .before .r .given .1) (c .before .before .before .before .expression .ensures) .passed .stands .within
 
-bracket-returns-3 : (t : ℕ) → bracket-lts.Need-returns-3 (bracket-calls t) (bracket-at t) bracket.Post
+bracket-returns-5 : (t : ℕ) → bracket-lts.Need-returns-5 (bracket-calls t) (bracket-at t) bracket.Post
 unfolding code-of
-bracket-returns-3 t c = bracket-read _ (c .before .before .before .before .before .before .before .before .before .before .before .before .before .pre .1 .0) (c .before .before .before .before .before .before .before .before .before .before .before .before .before .pre .1 .1) (past _ _ _ (c .before .before .before .before .before .before .before .before .before .before .advance .ensures) (c .before .before .before .before .before .before .before .before .a .given .1)) (got expression-way (c .before .before .r .given .1) (c .before .before .before .before .before .expression .ensures)) _ (c .expect .ensures)
+bracket-returns-5 t c = one-read _ _ _ _ _ _ _ _ (c .before .before .before .before .before .before .before .before .before .before .before .if2 .left) (bracket-read _ (one-allowed (c .before .before .before .before .before .before .before .before .before .before .before .before .before .before .before .before .before .pre .1 .0) (c .before .before .before .before .before .before .before .before .before .before .before .if2 .left)) (sym (c .before .before .before .before .before .before .before .before .before .before .before .before .before .fixed-ahead .ensures) ∙ c .before .before .before .before .before .before .before .before .before .before .before .before .if1 .left) (past _ _ _ (c .before .before .before .before .before .before .before .before .before .before .advance .ensures) (c .before .before .before .before .before .before .before .before .a .given .1)) (got expression-way (c .before .before .r .given .1) (c .before .before .before .before .before .expression .ensures)) _ (c .expect .ensures))
 
 abbrev expression-Inv-loop : expression-lts.InvT-loop
 expression-Inv-loop allow text names table₀ so-far₀ table so-far = Rounds first-term-way text names table₀ allow so-far₀ table so-far
@@ -314,34 +306,17 @@ factor-advance-requires-2 : (t : ℕ) → factor-lts.Need-advance-requires-2 (fa
 unfolding one-instruction
 factor-advance-requires-2 t c κs = rw (c .before .used .ensures .0, noted-is) (c .before .before .before .before .before .before .before .before .pre .1 .stands .within)
 
+factor-bracket-requires : (t : ℕ) → factor-lts.Need-bracket-requires (factor-calls t) (factor-at t) factor.Post
+factor-bracket-requires t c κs = (omega (arith, c .before .before .before .before .before .pre .0), (c .before .before .before .before .before .pre .1, no-operand (c .before .match .keys3)))
+
 factor-returns : (t : ℕ) → factor-lts.Need-returns (factor-calls t) (factor-at t) factor.Post
-unfolding Reads code-of
-factor-returns t c = no-factor (c .before .before .before .before .before .before .before .pre .1 .stands) _ (fixed-none (c .before .before .kind2 .given .1) .0) (fixed-none (c .before .before .kind2 .given .1) .1) (λ e. c .if1 .taken (sym (fixed-is (c .before .before .kind2 .given .1)) ∙ e))
+factor-returns t c = literal-read _ (c .before .before .before .before .before .before .before .before .before .before .before .pre .1) (c .before .before .before .before .before .before .kind .given .1) (c .before .before .emitted .ensures .0) (toZ-ofZ (record { sfits = c .before .before .before .operand .ok }) ∙ c .before .before .before .operand .ensures) (c .before .before .emitted .ensures .1) _ (c .advance .ensures)
 
 factor-returns-2 : (t : ℕ) → factor-lts.Need-returns-2 (factor-calls t) (factor-at t) factor.Post
-unfolding Reads code-of
-factor-returns-2 t c = bracket-too-deep (c .before .before .before .before .before .before .before .before .pre .1 .stands) _ (fixed-is (c .before .before .before .kind2 .given .1) ∙ c .before .if1 .left) (c .if2 .taken)
-
-factor-bracket-requires : (t : ℕ) → factor-lts.Need-bracket-requires (factor-calls t) (factor-at t) factor.Post
-unfolding code-of
-factor-bracket-requires t c κs = (omega (arith, c .before .before .before .before .before .before .before .before .before .pre .0, c .before .if2 .left), (one-allowed (c .before .before .before .before .before .before .before .before .before .pre .1) (c .before .if2 .left), fixed-is (c .before .before .before .before .kind2 .given .1) ∙ c .before .before .if1 .left))
+factor-returns-2 t c = variable-read _ (c .before .before .before .before .before .before .before .before .before .pre .1) (c .before .before .before .before .enum-told .given .1) (c .before .before .used .ensures .0) (c .before .before .used .ensures .1) _ (c .advance2 .ensures)
 
 factor-returns-3 : (t : ℕ) → factor-lts.Need-returns-3 (factor-calls t) (factor-at t) factor.Post
-factor-returns-3 t c = literal-read _ (c .before .before .before .before .before .before .before .before .before .before .before .pre .1) (c .before .before .before .before .before .before .kind .given .1) (c .before .before .emitted .ensures .0) (toZ-ofZ (record { sfits = c .before .before .before .operand .ok }) ∙ c .before .before .before .operand .ensures) (c .before .before .emitted .ensures .1) _ (c .advance .ensures)
-
-factor-returns-4 : (t : ℕ) → factor-lts.Need-returns-4 (factor-calls t) (factor-at t) factor.Post
-factor-returns-4 t c = variable-read _ (c .before .before .before .before .before .before .before .before .before .pre .1) (c .before .before .before .before .enum-told .given .1) (c .before .before .used .ensures .0) (c .before .before .used .ensures .1) _ (c .advance2 .ensures)
-
-factor-returns-5 : (t : ℕ) → factor-lts.Need-returns-5 (factor-calls t) (factor-at t) factor.Post
-unfolding Reads
-factor-returns-5 t c = no-factor (c .before .before .before .before .before .pre .1 .stands) _ (class-none (c .enum-told2 .given .1) .0) (class-none (c .enum-told2 .given .1) .1) (class-number (c .enum-told2 .given .1))
-
-factor-returns-6 : (t : ℕ) → factor-lts.Need-returns-6 (factor-calls t) (factor-at t) factor.Post
-unfolding Reads
-factor-returns-6 t c = no-factor (c .before .before .before .before .before .pre .1 .stands) _ (string-none (c .enum-told3 .given .1) .0) (string-none (c .enum-told3 .given .1) .1) (string-number (c .enum-told3 .given .1))
-
-factor-returns-7 : (t : ℕ) → factor-lts.Need-returns-7 (factor-calls t) (factor-at t) factor.Post
-factor-returns-7 t c = one-read _ _ _ _ _ _ _ _ (c .before .before .before .if2 .left) (c .before .bracket .ensures)
+factor-returns-3 t c = c .before .bracket .ensures
 
 first-term-returns : (t : ℕ) → first-term-lts.Need-returns (first-term-calls t) (first-term-at t) first-term.Post
 first-term-returns t c = handed-on (unsigned-leads (c .before .before .before .before .before .before .before .before .pre .1 .stands) _ (ap is-sign (sym (c .before .before .before .before .before .fixed-ahead .ensures)) ∙ sym (c .before .before .before .before .is-sign .ensures) ∙ flag-off _ (c .before .before .before .if1 .taken))) (λ x v g l. lays-unsigned l) _ (c .before .term .ensures)
@@ -415,18 +390,22 @@ pub +bracket+expression+factor+first-term+term-spec : {M : Type 1} → statement
 +bracket+expression+factor+first-term+term-spec =
     close μ-bracket μ-expression μ-factor μ-first-term μ-term (λ t. bracket-lts.spec (bracket-calls t) (bracket-at t)
     bracket.Post
+    (λ c κs. search needs)
+    (bracket-returns t)
+    (bracket-returns-2 t)
     (bracket-advance-requires t)
     (λ c. search needs)
     (λ c. search needs)
-    (bracket-returns t)
+    (bracket-returns-3 t)
+    (λ c. search needs)
     (bracket-expression-requires t)
     (λ c. search needs)
     (λ c. search needs)
     (λ c. search needs)
-    (bracket-returns-2 t)
+    (bracket-returns-4 t)
     (bracket-expect-requires t)
     (λ c. search needs)
-    (bracket-returns-3 t))
+    (bracket-returns-5 t))
     (λ t. expression-lts.spec (expression-calls t) (expression-at t)
     expression.Post
     expression-Inv-loop
@@ -460,21 +439,13 @@ pub +bracket+expression+factor+first-term+term-spec : {M : Type 1} → statement
     (λ c. search needs)
     (factor-used-requires t)
     (factor-advance-requires-2 t)
-    (λ c. search needs)
-    (λ c. search needs)
-    (λ c. search needs)
-    (factor-returns t)
-    (factor-returns-2 t)
-    (λ c. search needs)
     (factor-bracket-requires t)
     (λ c. search needs)
-    (factor-returns-3 t)
+    (factor-returns t)
     (λ c. search needs)
-    (factor-returns-4 t)
-    (factor-returns-5 t)
-    (factor-returns-6 t)
+    (factor-returns-2 t)
     (λ c. search needs)
-    (factor-returns-7 t))
+    (factor-returns-3 t))
     (λ t. first-term-lts.spec (first-term-calls t) (first-term-at t)
     first-term.Post
     (λ c κs. search needs)

@@ -23,16 +23,13 @@ use borrow.Fn.Kinds.{In}
 use borrow.Fn.PlainCycle.{Measures, is, falls, and}
 use Rattle.compiler.proofs.command.block.Reads as block
 use Rattle.compiler.proofs.command.block.Kinds as block-kinds
-use Rattle.compiler.proofs.command.+block+command+guarded+nested.Lts-block as block-lts
+use Rattle.compiler.proofs.command.+block+command+guarded.Lts-block as block-lts
 use Rattle.compiler.proofs.command.command.Reads as command
 use Rattle.compiler.proofs.command.command.Kinds as command-kinds
-use Rattle.compiler.proofs.command.+block+command+guarded+nested.Lts-command as command-lts
+use Rattle.compiler.proofs.command.+block+command+guarded.Lts-command as command-lts
 use Rattle.compiler.proofs.command.guarded.Reads as guarded
 use Rattle.compiler.proofs.command.guarded.Kinds as guarded-kinds
-use Rattle.compiler.proofs.command.+block+command+guarded+nested.Lts-guarded as guarded-lts
-use Rattle.compiler.proofs.command.nested.Reads as nested
-use Rattle.compiler.proofs.command.nested.Kinds as nested-kinds
-use Rattle.compiler.proofs.command.+block+command+guarded+nested.Lts-nested as nested-lts
+use Rattle.compiler.proofs.command.+block+command+guarded.Lts-guarded as guarded-lts
 use Rattle.compiler.proofs.command.before_body.Reads as before-body-reads
 use Rattle.compiler.proofs.command.ended.Reads as ended-reads
 use Rattle.compiler.proofs.command.has_body.Reads as has-body-reads
@@ -47,20 +44,17 @@ use Rattle.compiler.proofs.walk.skipped.Reads as skipped-reads
 use Rattle.names.proofs.close.Reads as close-reads
 use Rattle.names.proofs.counts.Reads as counts-reads
 use Rattle.names.proofs.open.Reads as open-reads
-use Rattle.compiler.proofs.command.+block+command+guarded+nested.{statement}
-use Rattle.compiler.proofs.command.+block+command+guarded+nested.Tie.{close}
+use Rattle.compiler.proofs.command.+block+command+guarded.{statement}
+use Rattle.compiler.proofs.command.+block+command+guarded.Tie.{close}
 
 abbrev μ-block : Measures 3 block-kinds.ps ℕ
-μ-block κs a = a .0 * 3 + 1
+μ-block κs a = a .0 * 2 + 1
 
 abbrev μ-command : Measures 3 command-kinds.ps ℕ
-μ-command κs a = a .0 * 3
+μ-command κs a = a .0 * 2
 
 abbrev μ-guarded : Measures 3 guarded-kinds.ps ℕ
-μ-guarded κs a = a .0 * 3 + 1
-
-abbrev μ-nested : Measures 3 nested-kinds.ps ℕ
-μ-nested κs a = a .0 * 3 + 2
+μ-guarded κs a = a .0 * 2 + 1
 
 abbrev block-at : ℕ → In 3 block-kinds.ps
 block-at t = and 3 block-kinds.ps (is 3 block-kinds.ps μ-block t) block.Pre
@@ -80,23 +74,14 @@ guarded-at t = and 3 guarded-kinds.ps (is 3 guarded-kinds.ps μ-guarded t) guard
 abbrev guarded-below : ℕ → In 3 guarded-kinds.ps
 guarded-below t = and 3 guarded-kinds.ps (falls 3 guarded-kinds.ps _<_ μ-guarded t) guarded.Pre
 
-abbrev nested-at : ℕ → In 3 nested-kinds.ps
-nested-at t = and 3 nested-kinds.ps (is 3 nested-kinds.ps μ-nested t) nested.Pre
-
-abbrev nested-below : ℕ → In 3 nested-kinds.ps
-nested-below t = and 3 nested-kinds.ps (falls 3 nested-kinds.ps _<_ μ-nested t) nested.Pre
-
 abbrev block-calls : ℕ → block-lts.Claims
 block-calls t = (counts-reads.Asked, counts-reads.Learnt, open-reads.Asked, open-reads.Learnt, command-below t, command.Post, fixed-ahead-reads.Asked, fixed-ahead-reads.Learnt, close-reads.Asked, close-reads.Learnt, advance-reads.Asked, advance-reads.Learnt, larger-reads.Asked, larger-reads.Learnt)
 
 abbrev command-calls : ℕ → command-lts.Claims
-command-calls t = (fixed-ahead-reads.Asked, fixed-ahead-reads.Learnt, advance-reads.Asked, advance-reads.Learnt, has-body-reads.Asked, has-body-reads.Learnt, without-body-reads.Asked, without-body-reads.Learnt, nested-below t, nested.Post)
+command-calls t = (fixed-ahead-reads.Asked, fixed-ahead-reads.Learnt, advance-reads.Asked, advance-reads.Learnt, has-body-reads.Asked, has-body-reads.Learnt, without-body-reads.Asked, without-body-reads.Learnt, block-below t, block.Post, guarded-below t, guarded.Post)
 
 abbrev guarded-calls : ℕ → guarded-lts.Claims
 guarded-calls t = (condition-reads.Asked, condition-reads.Learnt, before-body-reads.Asked, before-body-reads.Learnt, expect-reads.Asked, expect-reads.Learnt, skipped-reads.Asked, skipped-reads.Learnt, command-below t, command.Post, ended-reads.Asked, ended-reads.Learnt, put-jump-if-false-reads.Asked, put-jump-if-false-reads.Learnt, larger-reads.Asked, larger-reads.Learnt)
-
-abbrev nested-calls : ℕ → nested-lts.Claims
-nested-calls t = (block-below t, block.Post, guarded-below t, guarded.Post)
 
 abbrev block-Inv-loop : block-lts.InvT-loop
 block-Inv-loop allow text names₀ table₀ before so-far₀ names table so-far = More text allow names₀ table₀ so-far₀ names table so-far
@@ -176,15 +161,25 @@ command-returns-3 : (t : ℕ) → command-lts.Need-returns-3 (command-calls t) (
 unfolding Reads
 command-returns-3 t c = too-deep-begun _ (command-begins t (c .before)) (omega (arith, c .if2 .taken))
 
-command-sub-nested : (t : ℕ) → command-lts.Need-sub-nested (command-calls t) (command-at t) command.Post
-command-sub-nested t c = omega (arith, c .if2 .left)
+command-sub-block : (t : ℕ) → command-lts.Need-sub-block (command-calls t) (command-at t) command.Post
+command-sub-block t c = omega (arith, c .before .if2 .left)
 
-command-nested-requires : (t : ℕ) → command-lts.Need-nested-requires (command-calls t) (command-at t) command.Post
-command-nested-requires t c κs = (omega (arith, c .before .before .before .before .before .before .before .before .before .before .before .before .before .pre .0, c .before .before .if2 .left), ready-first (command-first t (c .before .before .before .before .before .before)) (omega (arith, c .before .before .if2 .left)))
+command-block-requires : (t : ℕ) → command-lts.Need-block-requires (command-calls t) (command-at t) command.Post
+command-block-requires t c κs = (omega (arith, c .before .before .before .before .before .before .before .before .before .before .before .before .before .before .pre .0, c .before .before .before .if2 .left), ready-first (command-first t (c .before .before .before .before .before .before .before)) (omega (arith, c .before .before .before .if2 .left)))
 
 command-returns-4 : (t : ℕ) → command-lts.Need-returns-4 (command-calls t) (command-at t) command.Post
-unfolding command-first want-nested
-command-returns-4 t c = reads-begun (command-first t (c .before .before .before .before .before .before .before .before .before .before)) (command-begins t (c .before .before .before .before .before .before .before)) _ _ _ _ (omega (arith, c .before .before .before .before .before .before .if2 .left)) (omega (arith, c .before .before .before .before .before .before .if2 .left)) (rw (c .before .before .before .before .before .before .before .before .before .before .before .before .before .fixed-ahead .ensures) at (c .before .before .before .nested .ensures))
+unfolding command-first want-nested code-of
+command-returns-4 t c = reads-begun (command-first t (c .before .before .before .before .before .before .before .before .before .before .before)) (command-begins t (c .before .before .before .before .before .before .before .before)) {allow′ = suc (c .before .before .before .before .before .before .before .before .before .before .before .before .before .before .before .before .before .before .args .allow - 1)} _ _ _ _ (omega (arith, c .before .before .before .before .before .before .before .if2 .left)) (omega (arith, c .before .before .before .before .before .before .before .if2 .left)) (rw (sym (c .before .before .before .before .before .before .before .before .before .before .before .before .before .before .fixed-ahead .ensures) ∙ c .before .before .before .before .before .before .if3 .taken) (c .before .before .before .block .ensures))
+
+command-sub-guarded : (t : ℕ) → command-lts.Need-sub-guarded (command-calls t) (command-at t) command.Post
+command-sub-guarded t c = omega (arith, c .before .if2 .left)
+
+command-guarded-requires : (t : ℕ) → command-lts.Need-guarded-requires (command-calls t) (command-at t) command.Post
+command-guarded-requires t c κs = (omega (arith, c .before .before .before .before .before .before .before .before .before .before .before .before .before .before .pre .0, c .before .before .before .if2 .left), ready-first (command-first t (c .before .before .before .before .before .before .before)) (omega (arith, c .before .before .before .if2 .left)))
+
+command-returns-5 : (t : ℕ) → command-lts.Need-returns-5 (command-calls t) (command-at t) command.Post
+unfolding command-first want-nested code-of
+command-returns-5 t c = reads-begun (command-first t (c .before .before .before .before .before .before .before .before .before .before .before)) (command-begins t (c .before .before .before .before .before .before .before .before)) {allow′ = suc (c .before .before .before .before .before .before .before .before .before .before .before .before .before .before .before .before .before .before .args .allow - 1)} _ _ _ _ (omega (arith, c .before .before .before .before .before .before .before .if2 .left)) (omega (arith, c .before .before .before .before .before .before .before .if2 .left)) (rw (ne-eqb _ _ (λ e. c .before .before .before .before .before .before .if3 .left (c .before .before .before .before .before .before .before .before .before .before .before .before .before .before .fixed-ahead .ensures ∙ e))) (rw (c .before .before .before .before .before .before .before .before .before .before .before .before .before .before .fixed-ahead .ensures) at (c .before .before .before .guarded .ensures)))
 
 guarded-condition-requires : (t : ℕ) → guarded-lts.Need-condition-requires (guarded-calls t) (guarded-at t) guarded.Post
 guarded-condition-requires t c κs = ready-inside (c .before .before .before .before .pre .1)
@@ -243,23 +238,9 @@ guarded-returns-4 t c =
     rw (c .before .before .put-jump-if-false .ensures, c .before .before .before .before .before .ended .ensures .0, c .before .before .before .before .before .ended .ensures .1, operand-is _ (end-small b), c .larger .ensures)
     (done (guarded-way _) refl (guarded-read b))
 
-nested-block-requires : (t : ℕ) → nested-lts.Need-block-requires (nested-calls t) (nested-at t) nested.Post
-nested-block-requires t c κs = (omega (arith, c .before .before .before .before .before .pre .0), c .before .before .before .before .before .pre .1)
-
-nested-returns : (t : ℕ) → nested-lts.Need-returns (nested-calls t) (nested-at t) nested.Post
-unfolding want-nested code-of
-nested-returns t c = rw (c .before .before .before .before .before .before .if1 .taken) (c .before .before .before .block .ensures)
-
-nested-guarded-requires : (t : ℕ) → nested-lts.Need-guarded-requires (nested-calls t) (nested-at t) nested.Post
-nested-guarded-requires t c κs = (omega (arith, c .before .before .before .before .before .pre .0), c .before .before .before .before .before .pre .1)
-
-nested-returns-2 : (t : ℕ) → nested-lts.Need-returns-2 (nested-calls t) (nested-at t) nested.Post
-unfolding want-nested code-of
-nested-returns-2 t c = rw (ne-eqb _ _ (c .before .before .before .before .before .before .if1 .left)) (c .before .before .before .guarded .ensures)
-
-pub +block+command+guarded+nested-spec : {M : Type 1} → statement M
-+block+command+guarded+nested-spec =
-    close μ-block μ-command μ-guarded μ-nested (λ t. block-lts.spec (block-calls t)
+pub +block+command+guarded-spec : {M : Type 1} → statement M
++block+command+guarded-spec =
+    close μ-block μ-command μ-guarded (λ t. block-lts.spec (block-calls t)
     (block-at t)
     block.Post
     block-Inv-loop
@@ -302,12 +283,17 @@ pub +block+command+guarded+nested-spec : {M : Type 1} → statement M
     (λ c. search needs)
     (command-returns-2 t)
     (command-returns-3 t)
-    (command-sub-nested t)
-    (command-nested-requires t)
+    (command-sub-block t)
+    (command-block-requires t)
     (λ c. search needs)
     (λ c. search needs)
-    (command-returns-4 t))
-    (λ t. guarded-lts.spec (guarded-calls t)
+    (command-returns-4 t)
+    (command-sub-guarded t)
+    (command-guarded-requires t)
+    (λ c. search needs)
+    (λ c. search needs)
+    (command-returns-5 t))
+    λ t. guarded-lts.spec (guarded-calls t)
     (guarded-at t)
     guarded.Post
     (guarded-condition-requires t)
@@ -335,15 +321,4 @@ pub +block+command+guarded+nested-spec : {M : Type 1} → statement M
     (λ c κs. search needs)
     (λ c. search needs)
     (guarded-same-length-8 t)
-    (guarded-returns-4 t))
-    λ t. nested-lts.spec (nested-calls t)
-    (nested-at t)
-    nested.Post
-    (nested-block-requires t)
-    (λ c. search needs)
-    (λ c. search needs)
-    (nested-returns t)
-    (nested-guarded-requires t)
-    (λ c. search needs)
-    (λ c. search needs)
-    (nested-returns-2 t)
+    (guarded-returns-4 t)
