@@ -13,7 +13,7 @@ fn main() {
     let mut room = [0u8; Station::ROOM];
     let mut page = [0u8; programs::PAGE];
     let mut note = [0u8; programs::LINE];
-    let s = programs::feed(
+    let s = tells::feed(
         &text[..size],
         &numbers[..count],
         &mut room,

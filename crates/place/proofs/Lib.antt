@@ -1,3 +1,1 @@
-pub mod Lengths
 pub mod Places
-pub mod Shown

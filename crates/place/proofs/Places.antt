@@ -8,7 +8,8 @@ use native.Mathlib.Numerals.{add-one}
 use native.Mathlib.Omega.{arith}
 use lib.ListN.{length, getD, take, drop, length-take, drop-of-length-le}
 use lib.Seq.{drop-cons}
-use Rattle.place.specs.Places.{line-feed, count, within, line-start}
+use Rattle.place.specs.Places.{line-feed, count, within, line-start, spot-at, spot}
+use Rattle.place.specs.declared.Spot.{Spot}
 
 module _ (such : ℕ → Bool) where
   -- a count after the test of its first byte
@@ -80,3 +81,8 @@ module _ (text : List ℕ) where
 
   pub start-fits : (p : ℕ) {start : ℕ} → start ≡ line-start text p → start ≤ p
   start-fits p e = rw e (begun p)
+
+-- where the line of a place begins, by its spot
+pub spot-start : (text : List ℕ) (place : ℕ) {p : ℕ} {s : Spot} → s ≡ spot text place → p ≡ within text place → s .start ≡ line-start text p
+unfolding spot spot-at
+spot-start text place e h = ap (λ (s : Spot). s .start) e ∙ ap (line-start text) (sym h)

@@ -11,7 +11,7 @@ fn see(label: &[u8], text: &[u8], place: usize) {
     let c = lines::put_counted(&mut page, b, b":", spot.column as u64);
     let d = lines::put_counted(&mut page, c, b" from ", spot.start as u64);
     let e = lines::put(&mut page, d, b"\n");
-    let f = place::put_marked_line(&mut page, e, text, place);
+    let f = marks::put_marked_line(&mut page, e, text, place);
     io::write_all(STDOUT_FILENO, base::part(&page, 0, f));
 }
 
@@ -31,7 +31,7 @@ fn sixteen_thousand() {
 // A page that is too short keeps what there is room for.
 fn short_page() {
     let mut page = [b'#'; 12];
-    let n = place::put_marked_line(&mut page, 1, b"DO PRINTI n", 3);
+    let n = marks::put_marked_line(&mut page, 1, b"DO PRINTI n", 3);
     io::write_all(STDOUT_FILENO, base::part(&page, 0, n));
     io::write_all(STDOUT_FILENO, b"\n");
 }

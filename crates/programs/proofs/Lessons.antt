@@ -1,15 +1,13 @@
 -- What comes of a text: its stack need is never more than the instructions, so that it does what its sentences mean. Assumes nothing.
-use mathlib.Core.Path.{_≡_, refl, sym}
+use mathlib.Core.Path.{_≡_}
 use mathlib.Core.List.{List}
 use Prim.Native.Nat.{ℕ, _*_, _≤_}
 use native.Mathlib.Omega.{arith}
 use lib.IntN.{ℤ}
-use lib.ListN.{length, take, drop}
-use lib.Seq.{take-at}
+use lib.ListN.{length}
 use Rattle.limits.specs.Limits.{Limits}
 use Rattle.base.specs.declared.Refusal.{Refusal}
 use Rattle.base.specs.Answers.{Answer, given, pass}
-use Rattle.machine.specs.Machine.{Report, room-after}
 use Rattle.machine.specs.declared.Report as Code
 use Rattle.meaning.proofs.Needs.{need-within}
 use Rattle.compiler.specs.Compiled.{Accepted, code-of-text, need-of, accepted, Compiled, fits, With-answer}
@@ -18,10 +16,8 @@ use Rattle.kit.specs.Kit.{Faithful, Comes-to, refused-so, ran, Outcome-of}
 use Rattle.kit.specs.declared.Outcome.{Outcome}
 use Rattle.kit.specs.declared.Outcome.the-variants as outcome
 use Rattle.programs.specs.Programs.{Tabled, came}
-use Rattle.programs.specs.Programs as P
-use Rattle.programs.specs.Writes.{Writes, Comes, Tells, with-output, room-left}
+use Rattle.programs.specs.Writes.{Comes}
 use Rattle.programs.specs.Writes as S
-use Rattle.programs.specs.declared.Said.{Said}
 use Rattle.programs.specs.declared.Came.{Came}
 use Rattle.programs.specs.declared.Came.the-variants as came-as
 
@@ -56,21 +52,3 @@ module _ (limits : Limits) (text : List ℕ) (zs stack : List ℤ) (budget : ℕ
 
     pub came-ran : {r : Code.Report} {table′ stack′ : List ℤ} {room′ : List ℕ} → Came-so (outcome.Ran r) table′ stack′ room′ → Comes-so (came-as.Ran r) room′
     came-ran c = with-answer c (λ a g o. by-run g (o .comes))
-
--- ---- what came, with its output in the room
-
-module _ {room : List ℕ} where
-  comes-output : {a : Answer Report} {c : Came} {room′ : List ℕ} → Comes room a c room′ → with-output c room′ ≡ a
-  unfolding with-output room-after
-  comes-output (S.refused-so why p) = refl
-  comes-output (S.ran w r {room′} x) =
-      let e : take (r .length) room′ ≡ w .output = rw (x .room) (take-at (w .output) (drop (length (w .output)) room) (r .length) (sym (x .size))) in
-      rw (x .ending, x .steps, x .used, e)
-
-  comes-room : {a : Answer Report} {c : Came} {room′ : List ℕ} → Comes room a c room′ → room′ ≡ room-left a room
-  unfolding room-left
-  comes-room (S.refused-so why p) = refl
-  comes-room (S.ran w r x) = x .room
-
-  pub tells : (say : Answer Report → P.Said) {a : Answer Report} {c : Came} {r : Said} {room′ out out′ err err′ : List ℕ} → Comes room a c room′ → Writes (say (with-output c room′)) r out out′ err err′ → Tells say a room r room′ out out′ err err′
-  tells say x s = record { says = rw (comes-output x) at s; after = comes-room x }

@@ -1,4 +1,4 @@
--- The contracts of `lesson`, `listing`, `station` and `feed` leave one result, and one content of the room and of each page. Assumes nothing.
+-- The contracts of `lesson` and `listing` leave one result, and one content of the room and of the page. Assumes nothing.
 use mathlib.Core.Path.{_≡_, refl, sym, ap, _∙_}
 use mathlib.Core.List.{List}
 use Prim.Native.Nat.{ℕ}
@@ -11,7 +11,7 @@ use Rattle.compiler.proofs.Judging.{one-compiled}
 use Rattle.compiler.proofs.Unique.{both}
 use Rattle.programs.specs.Programs as P
 use Rattle.programs.specs.Programs.{Tabled}
-use Rattle.programs.specs.Writes.{Writes, Comes, refused-so, ran, Tells}
+use Rattle.programs.specs.Writes.{Writes, Comes, refused-so, ran}
 use Rattle.programs.specs.declared.Said.{Said}
 use Rattle.programs.specs.declared.Came.{Came}
 use Rattle.programs.specs.declared.Came.the-variants as came
@@ -31,11 +31,3 @@ module _ (limits : Limits) (text : List ℕ) where
 
   pub listing-unique : (say : Answer Accepted → P.Said) {r r′ : Said} (out : List ℕ) {out′ out″ : List ℕ} (err : List ℕ) {err′ err″ : List ℕ} → With-answer (Tabled limits text) (λ a. Writes (say a) r out out′ err err′) → With-answer (Tabled limits text) (λ a. Writes (say a) r′ out out″ err err″) → (r ≡ r′) × (out′ ≡ out″) × (err′ ≡ err″)
   listing-unique say out err p q = let b = both (λ a c. one-compiled limits text _) p q in one-written (b .1) (b .2)
-
-  -- of `station` and of `feed`
-  pub telling-unique : (say : Answer Report → P.Said) (come : Answer Accepted → Answer Report) (room : List ℕ) {r r′ : Said} {room′ room″ : List ℕ} (out : List ℕ) {out′ out″ : List ℕ} (err : List ℕ) {err′ err″ : List ℕ} →
-      With-answer (Tabled limits text) (λ a. Tells say (come a) room r room′ out out′ err err′) → With-answer (Tabled limits text) (λ a. Tells say (come a) room r′ room″ out out″ err err″) → (r ≡ r′) × (room′ ≡ room″) × (out′ ≡ out″) × (err′ ≡ err″)
-  telling-unique say come room out err p q =
-      let b = both (λ a c. one-compiled limits text _) p q in
-      let e = one-written (b .1 .says) (b .2 .says) in
-      (e .0, b .1 .after ∙ sym (b .2 .after), e .1, e .2)

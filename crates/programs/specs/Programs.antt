@@ -11,8 +11,8 @@ use Rattle.instruction.specs.Endings.{normal}
 use Rattle.instruction.specs.Instructions.{numbers}
 use Rattle.machine.specs.Machine.{Report}
 use Rattle.compiler.specs.Compiled.{Accepted, code-of-text, need-of, Compiled}
-use Rattle.kit.specs.Kit.{worked-out, sendable}
-use Rattle.lines.specs.Lines.{line-end, refused-line, ending-line, accepted-line, table-lines}
+use Rattle.kit.specs.Kit.{worked-out}
+use Rattle.lines.specs.Lines.{refused-line, accepted-line, table-lines}
 
 -- on standard output, on standard error, and by its status
 pub record Said : Type 0 where
@@ -42,17 +42,7 @@ unfoldable pub listed : Answer Accepted → Said
 listed (given a) = record { out = accepted-line (length (code-of-text a)) (a .cells) (need-of a) ++ table-lines (numbers (code-of-text a)); err = []; status = good }
 listed (refused why p) = record { out = refused-line why p; err = []; status = not-good }
 
--- ---- the second program: the output, a line end, and how the run ended, or the refusal's line; its status is good exactly with ending 0
+-- ---- of a run: good exactly with ending 0
 
 unfoldable pub status-of : ℕ → ℕ
 status-of ending = cond (eqb ending normal) good not-good
-
-unfoldable pub said-of-run : Answer Report → Said
-said-of-run (given r) = record { out = r .output ++ line-end ++ ending-line (r .ending) (r .steps); err = []; status = status-of (r .ending) }
-said-of-run (refused why p) = record { out = refused-line why p; err = []; status = not-good }
-
--- ---- for the feed: only what may be sent; on standard error, how any other run ended; its status is good exactly when the output may be sent
-
-unfoldable pub sent : Answer Report → Said
-sent (given r) = record { out = sendable (r .ending) (length (r .output)) (r .output); err = cond (eqb (r .ending) normal) [] (ending-line (r .ending) (r .steps)); status = status-of (r .ending) }
-sent (refused why p) = record { out = []; err = refused-line why p; status = not-good }

@@ -36,13 +36,3 @@ pub data Comes (room : List ℕ) : Answer Report → Came → List ℕ → Type 
 unfoldable pub with-output : Came → List ℕ → Answer Report
 with-output (Ran r) room = given (record { ending = r .ending; steps = r .steps; used = r .used; output = take (r .length) room })
 with-output (Refused why p) room = refused why p
-
--- a refused text leaves the room as it was
-unfoldable pub room-left : Answer Report → List ℕ → List ℕ
-room-left (given w) room = room-after (w .output) room
-room-left (refused why p) room = room
-
--- what is said of what came, and the room after the run
-pub record Tells (say : Answer Report → P.Said) (a : Answer Report) (room : List ℕ) (r : Said) (room′ out out′ err err′ : List ℕ) : Type 0 where
-  pub says : Writes (say a) r out out′ err err′
-  pub after : room′ ≡ room-left a room

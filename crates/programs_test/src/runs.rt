@@ -21,7 +21,7 @@ fn said(name: &[u8], s: Said, page: &[u8; programs::PAGE], note: &[u8; programs:
 pub fn station(text: &[u8], numbers: &[i32]) {
     let mut room = [7u8; Station::ROOM];
     let mut page = [b'#'; programs::PAGE];
-    let s = programs::station(text, numbers, &mut room, &mut page);
+    let s = tells::station(text, numbers, &mut room, &mut page);
     said(b"station", s, &page, &[b'#'; programs::LINE]);
 }
 
@@ -29,7 +29,7 @@ fn feed(text: &[u8], numbers: &[i32]) {
     let mut room = [7u8; Station::ROOM];
     let mut page = [b'#'; programs::PAGE];
     let mut note = [b'#'; programs::LINE];
-    let s = programs::feed(text, numbers, &mut room, &mut page, &mut note);
+    let s = tells::feed(text, numbers, &mut room, &mut page, &mut note);
     said(b"feed", s, &page, &note);
 }
 

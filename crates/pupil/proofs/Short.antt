@@ -11,7 +11,7 @@ use Rattle.base.specs.Bytes.{bytes, bytes-from}
 use Rattle.machine.specs.Machine.{Report}
 use Rattle.lines.proofs.Short.{Small, small-number, short-counted}
 use Rattle.place.specs.Places.{spot}
-use Rattle.place.specs.Shown.{Widths, marked-line}
+use Rattle.marks.specs.Shown.{Widths, marked-line}
 use Rattle.words.proofs.Short.{Fit, short-why, short-how}
 use Rattle.words.specs.declared.Numbers.{Numbers}
 use Rattle.pupil.specs.Shows.{has-place, at-place, shown-refusal, shown-output, steps-taken, shown-run}

@@ -6,7 +6,7 @@ use lib.ListN.{length, take}
 use Rattle.base.specs.declared.Refusal.{Refusal}
 use Rattle.machine.specs.declared.Report as Code
 use Rattle.lines.specs.Added.{Added}
-use Rattle.place.specs.Shown.{Widths}
+use Rattle.marks.specs.Shown.{Widths}
 use Rattle.words.specs.declared.Numbers.{Numbers}
 use Rattle.programs.specs.Programs.{status-of}
 use Rattle.programs.specs.Writes.{Writes, with-output}

@@ -11,7 +11,7 @@ use Rattle.base.specs.Bytes.{bytes}
 use Rattle.machine.specs.Machine.{Report}
 use Rattle.lines.specs.Lines.{line-end, counted}
 use Rattle.place.specs.Places.{spot}
-use Rattle.place.specs.Shown.{Widths, marked-line}
+use Rattle.marks.specs.Shown.{Widths, marked-line}
 use Rattle.words.specs.Words.{why, how}
 use Rattle.words.specs.declared.Numbers.{Numbers}
 use Rattle.programs.specs.Programs.{Said, not-good, status-of}

@@ -11,7 +11,7 @@ ghost use Rattle.pupil.specs.Shows.{has-place, at-place, shown-refusal, 
 use base::Refusal;
 use limits::Station;
 use machine::Report;
-use place::Window;
+use marks::Window;
 use programs::Came;
 use programs::Said;
 use words::Numbers;
@@ -37,7 +37,7 @@ fn put_place(page: &mut [u8], at: usize, text: &[u8], place: usize) -> usize
     let a = lines::put_counted(page, at, b", line ", spot.line as u64);
     let b = lines::put_counted(page, a, b", column ", spot.column as u64);
     let c = lines::put(page, b, b":\n");
-    place::put_marked_line(page, c, text, place)
+    marks::put_marked_line(page, c, text, place)
 }
 
 fn put_where(page: &mut [u8], at: usize, text: &[u8], why: Refusal, place: usize) -> usize

@@ -3,7 +3,7 @@ use Rattle.lines.proofs.Adds.{adds-then}
 use Rattle.base.specs.Bytes.{bytes, bytes-from}
 use Rattle.lines.specs.Lines.{counted}
 use denote.Ref.{now}
-use Rattle.place.proofs.Lengths.{marked-fits}
+use Rattle.marks.proofs.Lengths.{marked-fits}
 use Rattle.lines.proofs.Short.{Small}
 use Rattle.pupil.specs.Shows.{at-place}
 use Rattle.pupil.proofs.Short.{short-place}
