@@ -1,6 +1,7 @@
 -- The contracts of `station` and `feed` leave one result, and one content of the room and of each page. Assumes nothing.
 use mathlib.Core.Path.{_≡_, sym, _∙_}
 use mathlib.Core.List.{List}
+use Prim.Native.Nat.{ℕ}
 use Rattle.limits.specs.Limits.{Limits}
 use Rattle.base.specs.Answers.{Answer}
 use Rattle.machine.specs.Machine.{Report}

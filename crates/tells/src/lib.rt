@@ -1,4 +1,5 @@
 // What the paper's second program and the program for the feed say of what came of a text.
+ghost use mathlib.Core.Path.{_≡_};
 ghost use mathlib.Core.List.{[]};
 ghost use lib.ListN.{length};
 ghost use Rattle.compiler.specs.Compiled.{With-answer};
