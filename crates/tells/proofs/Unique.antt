@@ -15,8 +15,8 @@ use Rattle.programs.proofs.Unique.{one-written}
 use Rattle.tells.specs.Tells.{Tells}
 
 pub telling-unique : (limits : Limits) (text : List ℕ) (say : Answer Report → P.Said) (come : Answer Accepted → Answer Report) (room : List ℕ) {r r′ : Said} {room′ room″ : List ℕ} (out : List ℕ) {out′ out″ : List ℕ} (err : List ℕ) {err′ err″ : List ℕ} →
-  With-answer (Tabled limits text) (λ a. Tells say (come a) room r room′ out out′ err err′) → With-answer (Tabled limits text) (λ a. Tells say (come a) room r′ room″ out out″ err err″) → (r ≡ r′) × (room′ ≡ room″) × (out′ ≡ out″) × (err′ ≡ err″)
+    With-answer (Tabled limits text) (λ a. Tells say (come a) room r room′ out out′ err err′) → With-answer (Tabled limits text) (λ a. Tells say (come a) room r′ room″ out out″ err err″) → (r ≡ r′) × (room′ ≡ room″) × (out′ ≡ out″) × (err′ ≡ err″)
 telling-unique limits text say come room out err p q =
-  let b = both (λ a c. one-compiled limits text _) p q in
-  let e = one-written (b .1 .says) (b .2 .says) in
-  (e .0, b .1 .after ∙ sym (b .2 .after), e .1, e .2)
+    let b = both (λ a c. one-compiled limits text _) p q in
+    let e = one-written (b .1 .says) (b .2 .says) in
+    (e .0, b .1 .after ∙ sym (b .2 .after), e .1, e .2)
