@@ -5,7 +5,7 @@ ghost use Prim.Native.Nat.{_+_, _≤_, _<_, max};
 ghost use lib.ListN.{length};
 ghost use Rattle.lexeme.specs.inner.Coded.{fixed-number};
 ghost use Rattle.tables.specs.inner.Tables.{put};
-ghost use Rattle.compiler.specs.inner.Steps.{start-at, one-instruction, faulted-walk, Fits, put-after, followed-by, Advances, Expects};
+ghost use Rattle.compiler.specs.inner.Steps.{start-at, one-instruction, faulted-walk, Fits, put-after, followed-by, passed-on, Advances, Expects};
 use base::Refusal;
 use lexeme::Found;
 use lexeme::Kind;
@@ -119,27 +119,35 @@ pub fn fixed_ahead(w: Walk) -> u8
     lexeme::fixed_of(kind)
 }
 
-// Past the lexeme ahead, which ends a construct of this need; what is no lexeme is refused as the reader of lexemes refuses it.
+// The refusal of the reader of lexemes, passed on.
+fn refused(found: Found) -> Read
+    ensures { λ r. ⌜ r ≡ passed-on found ⌝ }
+{
+    match found {
+        Found::Is(l) => Read::Refused(Refusal::NoLexeme, l.place),
+        Found::Refused(why, p) => Read::Refused(why, p),
+    }
+}
+
+// Past the lexeme ahead, which ends a construct of this need.
 pub fn advance(text: &[u8], w: Walk, need: usize) -> Read
     requires { ⌜ w .next .end ≤ length (now text) ⌝ }
     ensures { λ r. ⌜ Advances (now (text .entry)) w need r ⌝ }
 {
     let l = w.next;
     let found = lexer::next(text, l.end);
-    match found {
-        Found::Is(m) => {
-            let fault = w.fault;
-            Read::Done(
-                Walk {
-                    next: m,
-                    code: w.code,
-                    fault: fault,
-                },
-                Gives { need: need },
-            )
-        }
-        Found::Refused(why, p) => Read::Refused(why, p),
-    }
+    let Found::Is(m) = found else {
+        return refused(found);
+    };
+    let fault = w.fault;
+    Read::Done(
+        Walk {
+            next: m,
+            code: w.code,
+            fault: fault,
+        },
+        Gives { need: need },
+    )
 }
 
 // One fixed lexeme, and no other, which ends a construct of this need.

@@ -8,7 +8,7 @@ use Prim.Native.Char.{code}
 use lib.Dec.{ltb, eqb}
 use lib.IntN.{ℤ, pos}
 use Rattle.base.specs.declared.Refusal.{Refusal}
-use Rattle.base.specs.declared.Refusal.the-variants.{NoProgram, Undeclared, TooManyDeclared}
+use Rattle.base.specs.declared.Refusal.the-variants.{NoLexeme, NoProgram, Undeclared, TooManyDeclared}
 use Rattle.base.specs.inner.Parts.{part}
 use Rattle.lexeme.specs.Lexemes as L
 use Rattle.lexeme.specs.Lexemes.{DO, IF, THEN, WHILE, open-brace, end, next}
@@ -16,6 +16,7 @@ use Rattle.lexeme.specs.inner.Coded.{code-of, coded, fixed-number, Stands}
 use Rattle.lexeme.specs.declared.Kind.{Kind}
 use Rattle.lexeme.specs.declared.Kind.the-variants as kind
 use Rattle.lexeme.specs.declared.Lexeme.{Lexeme}
+use Rattle.lexeme.specs.declared.Found.{Found}
 use Rattle.lexeme.specs.declared.Found.the-variants as reply
 use Rattle.names.specs.declared.Cell.{Cell}
 use Rattle.names.specs.declared.Cell.the-variants.{At, Nowhere}
@@ -50,6 +51,11 @@ unfoldable pub faulted-walk : Walk → Refusal → ℕ → Walk
 faulted-walk w why p = record { next = w .next; code = w .code; fault = first-fault (w .fault) why p }
 
 -- ---- the lexeme ahead
+
+-- a refusal of the reader of lexemes
+unfoldable pub passed-on : Found → Read
+passed-on (reply.Is l) = Refused NoLexeme (l .place)
+passed-on (reply.Refused why p) = Refused why p
 
 -- m is the lexeme after l
 pub record Follows (text : List ℕ) (l m : Lexeme) : Type 0 where
