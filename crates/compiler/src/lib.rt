@@ -71,10 +71,10 @@ pub fn judge(text: &[u8]) -> Answer
     requires { λ sizes. do ⌜ record { word = (← ⟦Limits::WORD⟧); string = (← ⟦Limits::STRING⟧); literal = (← ⟦Limits::LITERAL⟧) } ≡ sizes ⌝ }
     ensures { λ sizes r. do ⌜ With-answer (Judged (record { text = (← ⟦Limits::TEXT⟧ .entry); sizes = sizes; nesting = (← ⟦Limits::NESTING⟧ .entry); declarations = (← ⟦Limits::DECLARATIONS⟧ .entry); instructions = (← ⟦Limits::INSTRUCTIONS⟧ .entry) }) (now (text .entry))) (λ a. r ≡ answered a) ⌝ }
 {
-    if lexer::too_long(text) {
+    if scan::too_long(text) {
         return Answer::Refused(Refusal::TooLong, 0);
     }
-    let found = lexer::scan(text);
+    let found = scan::scan(text);
     match found {
         Found::Refused(why, place) => Answer::Refused(why, place),
         Found::Is(_) => measured(text),

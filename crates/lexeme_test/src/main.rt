@@ -67,7 +67,7 @@ fn show(label: &[u8], text: &[u8]) {
     say(b":");
     say_lexemes(text);
     say(b"; scan");
-    say_last(lexer::scan(text));
+    say_last(scan::scan(text));
     say(b"\n");
 }
 
@@ -95,7 +95,7 @@ fn each(all: &[u8]) {
 
 fn say_long(label: &[u8], text: &[u8]) {
     say(label);
-    if lexer::too_long(text) {
+    if scan::too_long(text) {
         say(b": too long\n");
     } else {
         say(b": not too long\n");

@@ -1,26 +1,17 @@
-// The reader of lexemes: the next one of a text, which knows no limits, and the scan of a whole text, which tests them: refusals 1, 2 and 3.
+// The reader of lexemes: the next one of a text, or refusal 2. It knows no limits.
 ghost use mathlib.Core.Path.{_≡_};
 ghost use mathlib.Core.Bool.{true};
-ghost use Prim.Native.Nat.{_+_, _-_, _≤_, _<_, min};
-ghost use lib.Dec.{ltb};
+ghost use Prim.Native.Nat.{_+_, _-_, _<_, min};
 ghost use lib.ListN.{length, drop};
 ghost use Rattle.base.specs.Bytes.{separator, letter, digit, letter-or-digit, run, begins, value};
-ghost use Rattle.lexeme.specs.Lexemes.{word, string-at, symbols, symbol, colon, next, lexemes};
-ghost use Rattle.lexeme.specs.inner.Coded.{coded, scanned, large};
+ghost use Rattle.lexeme.specs.Lexemes.{word, string-at, symbols, symbol, colon, next};
+ghost use Rattle.lexeme.specs.inner.Coded.{coded};
 use base::Refusal;
 use base::Such;
 use lexeme::Found;
 use lexeme::Kind;
 use lexeme::Lexeme;
 use lexeme::fixed;
-use limits::Limits;
-
-// Whether a text is too long: refusal 1.
-pub fn too_long(text: &[u8]) -> bool
-    ensures { λ r. do ⌜ r ≡ ltb (← ⟦Limits::TEXT⟧ .entry) (length (now (text .entry))) ⌝ }
-{
-    Limits::TEXT < text.len()
-}
 
 // What a digit adds to the value of its word.
 fn worth(b: u8) -> u64
@@ -176,42 +167,5 @@ pub fn next(text: &[u8], at: usize) -> Found
         b'"' => string_at(text, p),
         b':' => colon_at(text, p),
         _ => symbol_at(b, p, p + 1),
-    }
-}
-
-// Whether a lexeme is too large: refusal 3.
-fn is_too_large(l: Lexeme) -> bool
-    requires { ⌜ l .place ≤ l .end ⌝ }
-    ensures { λ r. do ⌜ r ≡ large (record { word = (← ⟦Limits::WORD⟧ .entry); string = (← ⟦Limits::STRING⟧ .entry); literal = (← ⟦Limits::LITERAL⟧ .entry) }) (l .kind) (l .end - l .place) ⌝ }
-{
-    let n = l.end - l.place;
-    let kind = l.kind;
-    match kind {
-        Kind::Literal(v) => Limits::LITERAL < v,
-        Kind::Name => Limits::WORD < n,
-        Kind::Class => Limits::WORD < n,
-        Kind::Str => Limits::STRING + 2 < n,
-        Kind::Fixed(_) => false,
-    }
-}
-
-// The end of a whole text, or its leftmost refusal of 2 and 3.
-pub fn scan(text: &[u8]) -> Found
-    ensures { λ r. do ⌜ r ≡ scanned (now (text .entry)) (lexemes (record { word = (← ⟦Limits::WORD⟧ .entry); string = (← ⟦Limits::STRING⟧ .entry); literal = (← ⟦Limits::LITERAL⟧ .entry) }) (now (text .entry))) ⌝ }
-{
-    let mut at = 0;
-    loop {
-        let found = next(text, at);
-        let Found::Is(l) = found else {
-            return found;
-        };
-        let kind = l.kind;
-        if is_too_large(l) {
-            return Found::Refused(Refusal::TooLarge, l.place);
-        }
-        if lexeme::fixed_of(kind) == fixed::END {
-            return found;
-        }
-        at = l.end;
     }
 }

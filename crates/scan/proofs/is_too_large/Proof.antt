@@ -1,8 +1,8 @@
 -- `lexer::is_too_large` meets its contract. Assumes nothing.
 use borrow.Author.Needs.{needs}
 use Rattle.lexeme.specs.inner.Coded.{large}
-use Rattle.lexer.proofs.is_too_large.Statement.{statement}
-use Rattle.lexer.proofs.is_too_large.Tie as tie
+use Rattle.scan.proofs.is_too_large.Statement.{statement}
+use Rattle.scan.proofs.is_too_large.Tie as tie
 
 returns : tie.Need-returns
 unfolding large

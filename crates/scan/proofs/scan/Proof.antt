@@ -11,8 +11,8 @@ use Rattle.lexeme.specs.inner.Coded.{code-of, fixed-number, Ends}
 use Rattle.lexeme.proofs.Decoded.{number-fixed}
 use Rattle.lexeme.proofs.Places.{next-stands}
 use Rattle.lexeme.proofs.Scans.{Scan, scan-starts, scan-refused, scan-large, scan-ends, scan-on}
-use Rattle.lexer.proofs.scan.Statement.{statement}
-use Rattle.lexer.proofs.scan.Tie as tie
+use Rattle.scan.proofs.scan.Statement.{statement}
+use Rattle.scan.proofs.scan.Tie as tie
 
 abbrev most : Sizes
 most = record { word = 32; string = 255; literal = 2147483647 }

@@ -1,7 +1,7 @@
 -- `lexer::too_long` meets its contract. Assumes nothing.
 use mathlib.Core.Path.{refl}
-use Rattle.lexer.proofs.too_long.Statement.{statement}
-use Rattle.lexer.proofs.too_long.Tie as tie
+use Rattle.scan.proofs.too_long.Statement.{statement}
+use Rattle.scan.proofs.too_long.Tie as tie
 
 returns : tie.Need-returns
 returns c = refl
