@@ -70,7 +70,7 @@ fn declare(allow: usize, text: &[u8], names: &mut [usize], table: &mut [i32], w:
     let Kind::Name = kind else {
         return Read::Refused(Refusal::NoProgram, l.place);
     };
-    let s = names::counts(names);
+    let s = scopes::counts(names);
     let x = walk::emitted(table, w, operations::PUSH_INT, 0);
     let y = walk::emitted(table, x, operations::STORE_STACK, s.next_cell as i32);
     walk::advance(text, naming::declared(names, y), 1)
@@ -99,7 +99,7 @@ fn assign(allow: usize, text: &[u8], names: &[usize], table: &mut [i32], w: Walk
     requires { ⌜ Ready (now text) (now names) w allow ⌝ }
     ensures { λ r. ⌜ Reads-assign l (now (text .entry)) (now (names .entry)) (now (table .entry)) w allow r (now (names .entry)) (now (table .exit)) ⌝ }
 {
-    let c = names::look_up(text, names, l.place, l.end);
+    let c = scopes::look_up(text, names, l.place, l.end);
     let a = walk::expect(text, naming::noted(w, c, l), b':', 0);
     let Read::Done(x, _) = a else {
         return a;
@@ -233,15 +233,15 @@ fn block(allow: usize, text: &[u8], names: &mut [usize], table: &mut [i32], w: W
     requires { ⌜ Ready (now text) (now names) w (suc allow) ⌝ }
     ensures { λ r. ⌜ Reads-block (now (text .entry)) (now (names .entry)) (now (table .entry)) w allow r (now (names .exit)) (now (table .exit)) ⌝ }
 {
-    let before = names::counts(names);
-    names::open(names);
+    let before = scopes::counts(names);
+    scopes::open(names);
     let mut so_far = command(allow, text, names, table, w);
     loop {
         let Read::Done(done, g) = so_far else {
             return so_far;
         };
         if walk::fixed_ahead(done) == b'}' {
-            names::close(names, before);
+            scopes::close(names, before);
             return walk::advance(text, done, g.need);
         }
         let r = command(allow, text, names, table, done);

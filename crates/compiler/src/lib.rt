@@ -58,7 +58,7 @@ fn measured(text: &[u8]) -> Answer
     match r {
         Read::Refused(why, place) => Answer::Refused(why, place),
         Read::Done(w, g) => {
-            let s = names::counts(&names);
+            let s = scopes::counts(&names);
             let fault = w.fault;
             tables::settled(s.cells, w.code, s.cells + g.need, fault)
         }

@@ -38,7 +38,7 @@ pub fn used(text: &[u8], names: &[usize], table: &mut [i32], w: Walk, operation:
     ensures { λ r. ⌜ (r ≡ one-instruction (noted-walk (cell-of (now (text .entry)) (now (names .entry)) (w .next)) w (w .next .place))) × (now (table .exit) ≡ put (now (table .entry)) (w .code) (operation ∷ pos (cell-number (cell-of (now (text .entry)) (now (names .entry)) (w .next))) ∷ [])) ⌝ }
 {
     let l = w.next;
-    let c = names::look_up(text, names, l.place, l.end);
+    let c = scopes::look_up(text, names, l.place, l.end);
     walk::emitted(table, noted(w, c, l), operation, operand(c))
 }
 
@@ -48,7 +48,7 @@ pub fn declared(names: &mut [usize], w: Walk) -> Walk
     ensures { λ _. ⌜ now (names .exit) ≡ declared-in (now (names .entry)) (w .next .place) (w .next .end) ⌝ }
 {
     let l = w.next;
-    if names::declare(names, l.place, l.end) {
+    if scopes::declare(names, l.place, l.end) {
         return w;
     }
     walk::faulted(w, Refusal::TooManyDeclared, l.place)

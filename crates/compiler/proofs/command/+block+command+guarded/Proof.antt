@@ -41,9 +41,9 @@ use Rattle.compiler.proofs.walk.fixed_ahead.Reads as fixed-ahead-reads
 use Rattle.compiler.proofs.walk.larger.Reads as larger-reads
 use Rattle.tables.proofs.put_jump_if_false.Reads as put-jump-if-false-reads
 use Rattle.compiler.proofs.walk.skipped.Reads as skipped-reads
-use Rattle.names.proofs.close.Reads as close-reads
-use Rattle.names.proofs.counts.Reads as counts-reads
-use Rattle.names.proofs.open.Reads as open-reads
+use Rattle.scopes.proofs.close.Reads as close-reads
+use Rattle.scopes.proofs.counts.Reads as counts-reads
+use Rattle.scopes.proofs.open.Reads as open-reads
 use Rattle.compiler.proofs.command.+block+command+guarded.{statement}
 use Rattle.compiler.proofs.command.+block+command+guarded.Tie.{close}
 

@@ -2,9 +2,9 @@
 use mathlib.Core.Path.{refl}
 use borrow.Author.Needs.{needs}
 use borrow.Author.Tests.{lt-ltb, le-ltb}
 use Rattle.names.specs.inner.Held.{declared-in}
-use Rattle.names.proofs.declare.Statement.{statement}
-use Rattle.names.proofs.declare.Tie as tie
+use Rattle.scopes.proofs.declare.Statement.{statement}
+use Rattle.scopes.proofs.declare.Tie as tie
 
 returns : tie.Need-returns
 unfolding declared-in

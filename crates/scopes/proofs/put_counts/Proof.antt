@@ -1,9 +1,9 @@
 -- `names::put_counts` meets its contract. Assumes nothing.
 use mathlib.Core.Path.{refl}
 use borrow.Author.Needs.{needs}
 use Rattle.names.specs.inner.Held.{with-counts}
-use Rattle.names.proofs.put_counts.Statement.{statement}
-use Rattle.names.proofs.put_counts.Tie as tie
+use Rattle.scopes.proofs.put_counts.Statement.{statement}
+use Rattle.scopes.proofs.put_counts.Tie as tie
 
 returns : tie.Need-returns
 unfolding with-counts

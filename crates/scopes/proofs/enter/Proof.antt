@@ -4,8 +4,8 @@ use Prim.Native.Nat.{suc, _+_, _*_}
 use native.Mathlib.Omega.{arith}
 use lib.ListN.{length-set}
 use borrow.Author.Needs.{needs}
-use Rattle.names.proofs.enter.Statement.{statement}
-use Rattle.names.proofs.enter.Tie as tie
+use Rattle.scopes.proofs.enter.Statement.{statement}
+use Rattle.scopes.proofs.enter.Tie as tie
 
 slice-write-names-2 : tie.Need-slice-write-names-2
 slice-write-names-2 c = simp length-set (omega arith)

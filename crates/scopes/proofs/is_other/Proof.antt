@@ -4,9 +4,9 @@ use Prim.Native.Nat.{ℕ}
 use native.Mathlib.Omega.{arith}
 use borrow.Author.Tests.{not-true, eqb-false}
 use borrow.Author.Needs.{needs}
 use Rattle.names.proofs.Found.{other-letter}
-use Rattle.names.proofs.is_other.Statement.{statement}
-use Rattle.names.proofs.is_other.Tie as tie
+use Rattle.scopes.proofs.is_other.Statement.{statement}
+use Rattle.scopes.proofs.is_other.Tie as tie
 
 returns : tie.Need-returns
 returns c = λ h. let z : _≡_ {A = ℕ} 0 1 = cc in absurd (omega arith)

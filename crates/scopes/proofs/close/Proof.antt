@@ -1,9 +1,9 @@
 -- `names::close` meets its contract. Assumes nothing.
 use mathlib.Core.Path.{refl}
 use borrow.Author.Needs.{needs}
 use Rattle.names.specs.inner.Held.{closed-in, closed-scope}
-use Rattle.names.proofs.close.Statement.{statement}
-use Rattle.names.proofs.close.Tie as tie
+use Rattle.scopes.proofs.close.Statement.{statement}
+use Rattle.scopes.proofs.close.Tie as tie
 
 returns : tie.Need-returns
 unfolding closed-in closed-scope

@@ -1,9 +1,9 @@
 -- `names::one_more` meets its contract. Assumes nothing.
 use native.Mathlib.Omega.{arith}
 use Rattle.names.specs.inner.Held.{one-up}
 use borrow.Author.Needs.{needs}
-use Rattle.names.proofs.one_more.Statement.{statement}
-use Rattle.names.proofs.one_more.Tie as tie
+use Rattle.scopes.proofs.one_more.Statement.{statement}
+use Rattle.scopes.proofs.one_more.Tie as tie
 
 returns : tie.Need-returns
 unfolding one-up

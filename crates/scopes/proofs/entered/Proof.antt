@@ -4,9 +4,9 @@ use Prim.Native.Nat.{_≤_, _<_}
 use borrow.Author.Needs.{needs}
 use borrow.Author.Tests.{lt-ltb, le-ltb}
 use denote.Ref.{now}
 use Rattle.names.specs.inner.Held.{counts, room, entered}
-use Rattle.names.proofs.entered.Statement.{statement}
-use Rattle.names.proofs.entered.Tie as tie
+use Rattle.scopes.proofs.entered.Statement.{statement}
+use Rattle.scopes.proofs.entered.Tie as tie
 
 enter-requires : tie.Need-enter-requires
 enter-requires c κs = rw (c .before .before .before .room .ensures) at (c .before .if1 .taken)

@@ -4,10 +4,10 @@ use mathlib.Core.Path.{_≡_, refl, sym, _∙_}
 use native.Mathlib.Omega.{arith}
 use borrow.Author.Needs.{needs}
 use lib.ListN.{length}
 use Rattle.names.specs.inner.Held.{room, held, visible-in, latest}
 use Rattle.names.proofs.Found.{found-room, found-none, found-last, found-before}
-use Rattle.names.proofs.look_up.Statement.{statement}
-use Rattle.names.proofs.look_up.Tie as tie
+use Rattle.scopes.proofs.look_up.Statement.{statement}
+use Rattle.scopes.proofs.look_up.Tie as tie
 
 abbrev Inv-loop : tie.InvT-loop
 Inv-loop text names p e word k₀ k = (k ≤ room names) × (latest (visible-in text names k) word ≡ latest (visible-in text names k₀) word)

@@ -1,9 +1,9 @@
 -- `names::open` meets its contract. Assumes nothing.
 use mathlib.Core.Path.{refl}
 use borrow.Author.Needs.{needs}
 use Rattle.names.specs.inner.Held.{opened-in, opened-scope}
-use Rattle.names.proofs.open.Statement.{statement}
-use Rattle.names.proofs.open.Tie as tie
+use Rattle.scopes.proofs.open.Statement.{statement}
+use Rattle.scopes.proofs.open.Tie as tie
 
 returns : tie.Need-returns
 unfolding opened-in opened-scope

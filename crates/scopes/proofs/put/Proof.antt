@@ -1,8 +1,8 @@
 -- `names::put` meets its contract. Assumes nothing.
 use borrow.Author.Needs.{needs}
 use Rattle.names.proofs.Held.{set-past}
-use Rattle.names.proofs.put.Statement.{statement}
-use Rattle.names.proofs.put.Tie as tie
+use Rattle.scopes.proofs.put.Statement.{statement}
+use Rattle.scopes.proofs.put.Tie as tie
 
 returns-2 : tie.Need-returns-2
 returns-2 c = set-past _ _ _ (c .if1 .left)

@@ -1,8 +1,8 @@
 -- `names::with_one_more` meets its contract. Assumes nothing.
 use Rattle.names.specs.inner.Held.{declared-scope}
 use borrow.Author.Needs.{needs}
-use Rattle.names.proofs.with_one_more.Statement.{statement}
-use Rattle.names.proofs.with_one_more.Tie as tie
+use Rattle.scopes.proofs.with_one_more.Statement.{statement}
+use Rattle.scopes.proofs.with_one_more.Tie as tie
 
 returns : tie.Need-returns
 unfolding declared-scope

@@ -1,8 +1,8 @@
 -- `names::counts` meets its contract. Assumes nothing.
 use mathlib.Core.Path.{refl}
 use borrow.Author.Needs.{needs}
-use Rattle.names.proofs.counts.Statement.{statement}
-use Rattle.names.proofs.counts.Tie as tie
+use Rattle.scopes.proofs.counts.Statement.{statement}
+use Rattle.scopes.proofs.counts.Tie as tie
 
 returns : tie.Need-returns
 returns c = rw (c .before .before .before .before .get .ensures, c .before .before .before .get2 .ensures, c .before .before .get3 .ensures, c .before .get4 .ensures, c .get5 .ensures) refl

@@ -1,8 +1,8 @@
 -- `names::is_named` meets its contract. Assumes nothing.
 use borrow.Author.Needs.{needs}
 use Rattle.names.specs.inner.Held.{held}
-use Rattle.names.proofs.is_named.Statement.{statement}
-use Rattle.names.proofs.is_named.Tie as tie
+use Rattle.scopes.proofs.is_named.Statement.{statement}
+use Rattle.scopes.proofs.is_named.Tie as tie
 
 returns : tie.Need-returns
 unfolding held
