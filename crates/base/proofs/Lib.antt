@@ -1,4 +1,3 @@
-pub mod Rooms
 pub mod Runs
 pub mod Words
 pub mod Unique

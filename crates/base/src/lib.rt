@@ -1,13 +1,11 @@
-// Bytes, their classes, comparing and printing them; refusals and their numbers; and numbers set to 0.
+// Bytes, their classes and comparing them; refusals and their numbers; and numbers set to 0.
 ghost use mathlib.Core.Path.{_≡_};
-ghost use Prim.Native.Nat.{_+_, _≤_, min};
+ghost use Prim.Native.Nat.{_+_, min};
 ghost use lib.IntN.{pos};
 ghost use lib.ListN.{length, drop, replicate};
 ghost use Rattle.base.specs.Bytes.{separator, letter, digit, run, begins, same};
 ghost use Rattle.base.specs.inner.Parts.{part};
-ghost use lib.Seq.{paste};
 ghost use Rattle.base.specs.inner.Kinds.{such};
-ghost use Rattle.base.specs.inner.Rooms.{said, Prints};
 ghost use Rattle.base.specs.Answers.{number};
 
 // Why a text is refused: document 01, "Refused texts".
@@ -142,48 +140,6 @@ pub fn is_same(a: &[u8], b: &[u8]) -> bool
         i += 1;
     }
     true
-}
-
-// What became of a print: the place after it, or that it does not fit.
-pub enum Printed {
-    UpTo(usize),
-    DoesNotFit,
-}
-
-// Bytes at a place with room for them.
-fn copy(room: &mut [u8], at: usize, bytes: &[u8])
-    requires { ⌜ at + length (now bytes) ≤ length (now room) ⌝ }
-    ensures { λ r. ⌜ now (room .exit) ≡ paste (now (room .entry)) at (now (bytes .entry)) (length (now (bytes .entry))) ⌝ }
-{
-    let mut i = 0;
-    while i < bytes.len() {
-        room[at + i] = bytes[i];
-        i += 1;
-    }
-}
-
-// Bytes from a place on, and a line feed after them if it is asked for: all of it, or nothing where it does not fit the room.
-pub fn print(room: &mut [u8], at: usize, bytes: &[u8], line: bool) -> Printed
-    ensures { λ r. ⌜ Prints (said line (now (bytes .entry))) (now (room .entry)) at r (now (room .exit)) ⌝ }
-{
-    if room.len() < at {
-        return Printed::DoesNotFit;
-    }
-    let free = room.len() - at;
-    if free < bytes.len() {
-        return Printed::DoesNotFit;
-    }
-    let end = at + bytes.len();
-    if line {
-        if free == bytes.len() {
-            return Printed::DoesNotFit;
-        }
-        copy(room, at, bytes);
-        room[end] = b'\n';
-        return Printed::UpTo(end + 1);
-    }
-    copy(room, at, bytes);
-    Printed::UpTo(end)
 }
 
 // Every number becomes 0.

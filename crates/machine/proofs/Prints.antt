@@ -9,9 +9,9 @@ use lib.IntN.{ℤ}
 use lib.ListN.{length, take, drop, length-append, length-drop}
 use lib.Seq.{take-at, drop-at, length-take-le, drop-drop}
 use borrow.Author.Tests.{leb-true}
-use Rattle.base.specs.declared.Printed.{Printed}
-use Rattle.base.specs.declared.Printed.the-variants.{UpTo, DoesNotFit}
-use Rattle.base.specs.inner.Rooms.{with-bytes, Prints}
+use Rattle.rooms.specs.declared.Printed.{Printed}
+use Rattle.rooms.specs.declared.Printed.the-variants.{UpTo, DoesNotFit}
+use Rattle.rooms.specs.inner.Rooms.{with-bytes, Prints}
 use Rattle.machine.specs.Machine.{Lent, printed, written, prints}
 use Rattle.machine.specs.declared.state.State.{State}
 use Rattle.machine.specs.declared.state.Move.{Move}

@@ -11,7 +11,7 @@ use lib.IntN.{ℤ, pos}
 use lib.ListN.{length, getD, set, length-set, getElem?}
 use borrow.Author.Tests.{lt-ltb, le-ltb}
 use Rattle.instruction.specs.Endings.{stack-full, bad-code}
-use Rattle.base.specs.inner.Rooms.{said}
+use Rattle.rooms.specs.inner.Rooms.{said}
 use Rattle.instruction.specs.inner.Coded.{as-result, as-instruction}
 use Rattle.instruction.specs.declared.decode.Op.{Op}
 use Rattle.instruction.specs.declared.decode.Op.the-variants.{PrintStr}

@@ -2,7 +2,7 @@
 ghost use mathlib.Core.Bool.{cond};
 ghost use lib.ListN.{length};
 ghost use Prim.Native.Nat.{_≤_};
-ghost use Rattle.base.specs.inner.Rooms.{said};
+ghost use Rattle.rooms.specs.inner.Rooms.{said};
 ghost use Rattle.machine.specs.Machine.{Lent, Machine, stop, tried, prints, string, closed};
 ghost use Rattle.instruction.specs.Endings.{bad-code};
 ghost use Rattle.instruction.specs.Instructions.{print-int};
@@ -10,16 +10,16 @@ ghost use Rattle.machine.specs.inner.Coded.{Prints, Stepped};
 use super::state::Move;
 use super::state::State;
 use super::state::moved;
-use base::Printed;
 use base::Such;
 use instruction::decimal::put_decimal;
 use instruction::endings;
+use rooms::Printed;
 
 // Bytes, with a line feed after them if it is asked for.
 fn write(s: State, bytes: &[u8], line: bool, out: &mut [u8]) -> Move
     ensures { λ r. ⌜ ((lent : Lent) → Prints lent (prints lent (said line (now (bytes .entry)))) s (now (out .entry)) r (now (out .exit))) ⌝ }
 {
-    match base::print(out, s.printed, bytes, line) {
+    match rooms::print(out, s.printed, bytes, line) {
         Printed::UpTo(end) => Move::Go(State {
             index: s.index,
             depth: s.depth,

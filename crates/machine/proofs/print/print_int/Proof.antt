@@ -5,7 +5,7 @@ use native.Mathlib.Omega.{arith}
 use denote.Ref.{now}
 use mir.Syntax.{w32}
 use mir.Facts.{toZ-ofZ}
-use Rattle.base.specs.inner.Rooms.{said}
+use Rattle.rooms.specs.inner.Rooms.{said}
 use Rattle.instruction.specs.Instructions.{print-int, effect}
 use Rattle.instruction.proofs.Buffers.{buffer-size, end-part}
 use Rattle.machine.specs.Machine.{names-well, does, tried}

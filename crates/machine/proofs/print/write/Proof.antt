@@ -1,6 +1,6 @@
 -- `print::write` meets its contract. Assumes nothing.
 use denote.Ref.{now}
-use Rattle.base.specs.inner.Rooms.{said}
+use Rattle.rooms.specs.inner.Rooms.{said}
 use Rattle.machine.proofs.Prints.{prints-so}
 use borrow.Author.Needs.{needs}
 use Rattle.machine.proofs.print.write.Statement.{statement}

@@ -1,4 +1,4 @@
--- `base::copy` meets its contract. The loop's invariant: the first i bytes are copied. The measure is what is left of them. Assumes nothing.
+-- `copy` meets its contract. The loop's invariant: the first i bytes are copied. The measure is what is left of them. Assumes nothing.
 use mathlib.Core.Path.{_≡_, ap, _∙_}
 use Prim.Native.Nat.{_≤_, _-_}
 use native.Mathlib.Numerals.{add-one}
@@ -6,8 +6,8 @@ use native.Mathlib.Omega.{arith}
 use denote.Ref.{now}
 use lib.ListN.{length}
 use lib.Seq.{paste, paste-zero, paste-suc, length-paste}
-use Rattle.base.proofs.copy.Statement.{statement}
-use Rattle.base.proofs.copy.Tie as tie
+use Rattle.rooms.proofs.copy.Statement.{statement}
+use Rattle.rooms.proofs.copy.Tie as tie
 
 abbrev Inv-loop : tie.InvT-loop
 Inv-loop out₀ at bytes i₀ room i = (room ≡ paste out₀ at bytes i) × (i ≤ length bytes)

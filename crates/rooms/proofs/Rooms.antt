@@ -9,8 +9,8 @@ use native.Mathlib.Omega.{arith}
 use lib.ListN.{length, getD, take, set, length-append}
 use lib.Seq.{paste, paste-suc, take-at, take-length, getD-at}
 use borrow.Author.Tests.{le-leb, lt-leb}
-use Rattle.base.specs.declared.Printed.the-variants.{UpTo, DoesNotFit}
-use Rattle.base.specs.inner.Rooms.{said, with-bytes, Prints}
+use Rattle.rooms.specs.declared.Printed.the-variants.{UpTo, DoesNotFit}
+use Rattle.rooms.specs.inner.Rooms.{said, with-bytes, Prints}
 
 longer : (line : Bool) (bs : List ℕ) → length bs ≤ length (said line bs)
 unfolding said

@@ -5,8 +5,8 @@ use mathlib.Core.Bool.{Bool, true, false, cond}
 use Prim.Native.Nat.{ℕ, _+_}
 use lib.Dec.{leb}
 use lib.ListN.{length, take, drop}
-use Rattle.base.specs.declared.Printed.{Printed}
-use Rattle.base.specs.declared.Printed.the-variants.{UpTo, DoesNotFit}
+use Rattle.rooms.specs.declared.Printed.{Printed}
+use Rattle.rooms.specs.declared.Printed.the-variants.{UpTo, DoesNotFit}
 
 -- bytes, and byte 10 after them if it is asked for
 unfoldable pub said : Bool → List ℕ → List ℕ

@@ -1,10 +1,10 @@
--- `base::print` meets its contract. Assumes nothing.
+-- `print` meets its contract. Assumes nothing.
 use native.Mathlib.Omega.{arith}
 use borrow.Author.Needs.{needs}
 use denote.Ref.{now}
-use Rattle.base.proofs.Rooms.{none-fits, without, line-does-not-fit, with-line}
-use Rattle.base.proofs.print.Statement.{statement}
-use Rattle.base.proofs.print.Tie as tie
+use Rattle.rooms.proofs.Rooms.{none-fits, without, line-does-not-fit, with-line}
+use Rattle.rooms.proofs.print.Statement.{statement}
+use Rattle.rooms.proofs.print.Tie as tie
 
 returns : tie.Need-returns
 returns c = none-fits (now (c .before .before .before .args .bytes)) (now (c .before .before .before .args .room)) (c .before .before .before .args .at) (c .before .before .before .args .line) (omega (arith, c .if1 .taken))
