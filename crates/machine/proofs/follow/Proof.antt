@@ -12,8 +12,8 @@ use mir.Syntax.{w32}
 use mir.Val.{SFits}
 use mir.Facts.{toZ-ofZ}
 use Rattle.machine.specs.Machine as M
-use Rattle.machine.specs.declared.state.State.{State}
-use Rattle.machine.specs.declared.state.Move.the-variants.{Put, Set}
+use Rattle.moves.specs.declared.State.{State}
+use Rattle.moves.specs.declared.Move.the-variants.{Put, Set}
 use Rattle.machine.specs.inner.Coded.{live, machine-of, Good, Did}
 use Rattle.machine.specs.Promise.{lends}
 use Rattle.machine.proofs.Runs.{run-goes, run-stops, reported, odd-table, even-table}

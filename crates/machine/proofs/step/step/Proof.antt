@@ -1,11 +1,12 @@
 -- `step::step` meets its contract: what was decoded is what the rule does next. Assumes nothing.
-use mathlib.Core.Path.{refl}
+use mathlib.Core.Path.{refl, sym}
 use Prim.Native.Nat.{_/_}
 use native.Mathlib.Omega.{arith}
 use borrow.Author.Tests.{le-ltb}
 use denote.Ref.{now}
 use lib.IntN.{pos}
 use lib.ListN.{length, getD}
+use lib.Seq.{length-take-le}
 use mir.Syntax.{w32}
 use mir.Facts.{toZ-ofZ}
 use Rattle.machine.specs.Machine as M
@@ -19,13 +20,17 @@ returns : tie.Need-returns
 unfolding M.step M.fetched M.pairs M.decoded
 returns c = λ before g. stops g _ 8 (rw (le-ltb (c .before .before .before .args .t .index / 2) (length (now (c .before .before .before .args .table)) / 2) (omega (arith, c .if1 .taken))))
 
+-- the live cells that are handed on are as many as the depth
+slice-aggregate-perform : tie.Need-slice-aggregate-perform
+slice-aggregate-perform c = sym (length-take-le _ _ (c .before .before .before .before .before .before .before .pre .0))
+
 -- what was decoded is what the rule does next
 returns-2 : tie.Need-returns-2
-unfolding M.pairs
 returns-2 c = λ before g.
-    let decoded = rw (toZ-ofZ {w = w32} {z = getD (now (c .before .before .before .before .before .before .before .before .before .before .args .table)) (c .before .before .before .before .before .before .before .before .before .before .args .t .index) (pos 0)} (record { sfits = c .before .before .before .before .before .before .decode-arg .given }), toZ-ofZ {w = w32} (record { sfits = c .before .before .before .before .before .decode-arg2 .given })) at (c .before .before .before .before .decode .ensures) in
-    also (c .before .before .perform .ensures (lends (now (c .before .before .before .before .before .before .before .before .before .before .args .text)) (now (c .before .before .before .before .before .before .before .before .before .before .args .table)) (now (c .before .before .before .before .before .before .before .before .before .before .args .readings)) (now (c .before .before .before .before .before .before .before .before .before .before .args .cells)) (now (c .before .before .before .before .before .before .before .before .before .before .args .out))) refl refl refl before (record { deep = g .deep; stack = g .stack; within = g .within; size = g .size; past = g .past; whole = omega (arith, g .whole) }))
-    (fetches (lends (now (c .before .before .before .before .before .before .before .before .before .before .args .text)) (now (c .before .before .before .before .before .before .before .before .before .before .args .table)) (now (c .before .before .before .before .before .before .before .before .before .before .args .readings)) (now (c .before .before .before .before .before .before .before .before .before .before .args .cells)) (now (c .before .before .before .before .before .before .before .before .before .before .args .out))) (c .before .before .before .before .decode .result) (c .before .before .before .before .before .before .before .before .before .before .args .t) (now (c .before .before .before .before .before .before .before .before .before .before .args .cells)) (now (c .before .before .before .before .before .before .before .before .before .before .args .out)) (g .whole) (c .before .before .before .before .before .before .before .if1 .left) (c .before .before .before .before .before .before .before .before .before .before .pre .1 .1) decoded)
+    let lent : M.Lent = lends (now (c .before .before .before .before .before .before .before .before .before .before .before .args .text)) (now (c .before .before .before .before .before .before .before .before .before .before .before .args .table)) (now (c .before .before .before .before .before .before .before .before .before .before .before .args .readings)) (now (c .before .before .before .before .before .before .before .before .before .before .before .args .cells)) (now (c .before .before .before .before .before .before .before .before .before .before .before .args .out)) in
+    let decoded = rw (toZ-ofZ {w = w32} {z = getD (now (c .before .before .before .before .before .before .before .before .before .before .before .args .table)) (c .before .before .before .before .before .before .before .before .before .before .before .args .t .index) (pos 0)} (record { sfits = c .before .before .before .before .before .before .before .decode-arg .given }), toZ-ofZ {w = w32} (record { sfits = c .before .before .before .before .before .before .decode-arg2 .given })) at (c .before .before .before .before .before .decode .ensures) in
+    also (c .before .before .perform .ensures lent (now (c .before .before .before .before .before .before .before .before .before .before .before .args .cells)) refl refl refl refl refl before (record { deep = g .deep; stack = g .stack; within = g .within; size = g .size; past = g .past; whole = omega (arith, g .whole) }))
+    (fetches lent (c .before .before .before .before .before .decode .result) (c .before .before .before .before .before .before .before .before .before .before .before .args .t) (now (c .before .before .before .before .before .before .before .before .before .before .before .args .cells)) (now (c .before .before .before .before .before .before .before .before .before .before .before .args .out)) (g .whole) (c .before .before .before .before .before .before .before .before .if1 .left) (c .before .before .before .before .before .before .before .before .before .before .before .pre .1 .1) decoded)
 
 pub step-spec : {M : Type 1} → statement M
 step-spec =
@@ -39,6 +44,7 @@ step-spec =
     (λ c. search needs)
     (λ c κs. search needs)
     (λ c. search needs)
+    slice-aggregate-perform
     (λ c κs. search needs)
     (λ c. search needs)
     returns-2)
