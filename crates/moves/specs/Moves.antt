@@ -24,20 +24,28 @@ abbrev pub puts : State → ℕ → Result → Move
 puts s d (value v) = pushes s d v
 puts s d (ends e) = Stop e
 
--- What follows is said of a state s that is past the instruction. Its live cells stand the lowest first, so the value on top is the last.
+-- What follows is said of a state s that is past the instruction.
 
--- `length` is the table's, and half of it the count of its pairs
+-- `size` is the table's length, and half of it the count of its pairs
 unfoldable pub jump-move : State → ℕ → ℕ → Move
-jump-move s length a = cond (leb (length / 2) a) (Stop bad-code) (Go (moves-to s (a * 2) (s .depth)))
+jump-move s size a = cond (leb (size / 2) a) (Stop bad-code) (Go (moves-to s (a * 2) (s .depth)))
+
+-- `cells` is how many the stack has
+unfoldable pub push-int-move : State → ℕ → ℤ → Move
+push-int-move s cells v = cond (leb cells (s .depth)) (Stop stack-full) (pushes s (s .depth) v)
+
+unfoldable pub read-move : State → ℕ → List ℤ → Move
+read-move s cells readings =
+    cond (leb cells (s .depth)) (Stop stack-full)
+    (cond (leb (length readings) (s .used)) (Stop no-reading-left)
+    (Put (record { index = s .index; depth = s .depth + 1; used = s .used + 1; printed = s .printed }) (getD readings (s .used) (pos 0))))
+
+unfoldable pub load-stack-move : State → ℕ → List ℤ → ℕ → Move
+load-stack-move s cells live k = cond (leb (length live) k) (Stop bad-code) (push-int-move s cells (getD live k (pos 0)))
+
+-- ---- the live cells, the lowest first: the value on top is the last
 
 module _ (s : State) (live : List ℤ) where
-  -- `cells` is how many the stack has
-  unfoldable pub push-int-move : ℕ → ℤ → Move
-  push-int-move cells v = cond (leb cells (length live)) (Stop stack-full) (pushes s (length live) v)
-
-  unfoldable pub load-stack-move : ℕ → ℕ → Move
-  load-stack-move cells k = cond (leb (length live) k) (Stop bad-code) (push-int-move cells (getD live k (pos 0)))
-
   -- the value is removed before its cell is tested
   unfoldable pub store-stack-move : ℕ → Move
   store-stack-move k =
@@ -69,10 +77,3 @@ module _ (s : State) (live : List ℤ) where
   not-move =
       let d = length live - 1 in
       cond (ltb (length live) 1) (Stop bad-code) (pushes s d (negation (getD live d (pos 0))))
-
-  unfoldable pub read-move : ℕ → List ℤ → Move
-  read-move cells readings =
-      let past : State = record { index = s .index; depth = s .depth; used = s .used + 1; printed = s .printed } in
-      cond (leb cells (length live)) (Stop stack-full)
-      (cond (leb (length readings) (s .used)) (Stop no-reading-left)
-      (pushes past (length live) (getD readings (s .used) (pos 0))))

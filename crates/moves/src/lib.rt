@@ -1,6 +1,6 @@
 // The instructions that print nothing, a function for each group, at a state that is past the instruction.
 // Each tests for bad code, then for stack room, then for its own ending. None writes: a move names the cell to be set.
-// `live` holds the state's live cells, so that their count is its depth; `cells` is how many the stack has, and `length` the table's.
+// `live` is the live cells, as many as the depth, for those that read one; `cells` is how many the stack has, and `size` the table's length.
 ghost use mathlib.Core.Path.{_≡_};
 ghost use Prim.Native.Nat.{_+_, _^_, _<_};
 ghost use Rattle.instruction.specs.inner.Coded.{as-result, as-two-sided};
@@ -59,23 +59,23 @@ fn put(s: State, d: usize, n: Calculated) -> Move
     }
 }
 
-pub fn push_int(s: State, live: &[i32], cells: usize, v: i32) -> Move
-    ensures { λ r. ⌜ r ≡ push-int-move s (now (live .entry)) cells v ⌝ }
+pub fn push_int(s: State, cells: usize, v: i32) -> Move
+    ensures { λ r. ⌜ r ≡ push-int-move s cells v ⌝ }
 {
-    let depth = live.len();
+    let depth = s.depth;
     if cells <= depth {
         return Move::Stop(endings::STACK_FULL);
     }
     push(s, depth, v)
 }
 
-pub fn load_stack(s: State, live: &[i32], cells: usize, k: usize) -> Move
-    ensures { λ r. ⌜ r ≡ load-stack-move s (now (live .entry)) cells k ⌝ }
+pub fn load_stack(s: State, cells: usize, live: &[i32], k: usize) -> Move
+    ensures { λ r. ⌜ r ≡ load-stack-move s cells (now (live .entry)) k ⌝ }
 {
     if live.len() <= k {
         return Move::Stop(endings::BAD_CODE);
     }
-    push_int(s, live, cells, live[k])
+    push_int(s, cells, live[k])
 }
 
 pub fn store_stack(s: State, live: &[i32], k: usize) -> Move
@@ -91,23 +91,23 @@ pub fn store_stack(s: State, live: &[i32], k: usize) -> Move
     Move::Set(moved(s, s.index, depth - 1), k, live[depth - 1])
 }
 
-pub fn jump(s: State, length: usize, a: usize) -> Move
-    ensures { λ r. ⌜ r ≡ jump-move s length a ⌝ }
+pub fn jump(s: State, size: usize, a: usize) -> Move
+    ensures { λ r. ⌜ r ≡ jump-move s size a ⌝ }
 {
-    if length / 2 <= a {
+    if size / 2 <= a {
         return Move::Stop(endings::BAD_CODE);
     }
     Move::Go(moved(s, a * 2, s.depth))
 }
 
-pub fn jump_if_false(s: State, live: &[i32], length: usize, a: usize) -> Move
-    ensures { λ r. ⌜ r ≡ jump-if-false-move s (now (live .entry)) length a ⌝ }
+pub fn jump_if_false(s: State, live: &[i32], size: usize, a: usize) -> Move
+    ensures { λ r. ⌜ r ≡ jump-if-false-move s (now (live .entry)) size a ⌝ }
 {
     let depth = live.len();
     if depth < 1 {
         return Move::Stop(endings::BAD_CODE);
     }
-    if length / 2 <= a {
+    if size / 2 <= a {
         return Move::Stop(endings::BAD_CODE);
     }
     if live[depth - 1] == 0 {
@@ -163,10 +163,10 @@ pub fn not(s: State, live: &[i32]) -> Move
     push(s, depth - 1, truth(live[depth - 1] == 0))
 }
 
-pub fn read(s: State, live: &[i32], cells: usize, readings: &[i32]) -> Move
-    ensures { λ r. ⌜ r ≡ read-move s (now (live .entry)) cells (now (readings .entry)) ⌝ }
+pub fn read(s: State, cells: usize, readings: &[i32]) -> Move
+    ensures { λ r. ⌜ r ≡ read-move s cells (now (readings .entry)) ⌝ }
 {
-    let depth = live.len();
+    let depth = s.depth;
     let used = s.used;
     if cells <= depth {
         return Move::Stop(endings::STACK_FULL);
@@ -176,9 +176,9 @@ pub fn read(s: State, live: &[i32], cells: usize, readings: &[i32]) -> Move
     }
     let t = State {
         index: s.index,
-        depth,
+        depth: depth + 1,
         used: used + 1,
         printed: s.printed,
     };
-    push(t, depth, readings[used])
+    Move::Put(t, readings[used])
 }
