@@ -85,10 +85,11 @@ pub fn store_stack(s: State, live: &[i32], k: usize) -> Move
     if depth < 1 {
         return Move::Stop(endings::BAD_CODE);
     }
-    if depth - 1 <= k {
+    let d = depth - 1;
+    if d <= k {
         return Move::Stop(endings::BAD_CODE);
     }
-    Move::Set(moved(s, s.index, depth - 1), k, live[depth - 1])
+    Move::Set(moved(s, s.index, d), k, live[d])
 }
 
 pub fn jump(s: State, size: usize, a: usize) -> Move
@@ -110,10 +111,11 @@ pub fn jump_if_false(s: State, live: &[i32], size: usize, a: usize) -> Move
     if size / 2 <= a {
         return Move::Stop(endings::BAD_CODE);
     }
-    if live[depth - 1] == 0 {
-        return Move::Go(moved(s, a * 2, depth - 1));
+    let d = depth - 1;
+    if live[d] == 0 {
+        return Move::Go(moved(s, a * 2, d));
     }
-    Move::Go(moved(s, s.index, depth - 1))
+    Move::Go(moved(s, s.index, d))
 }
 
 fn two_sided(s: State, live: &[i32], k: Operator) -> Move
@@ -123,9 +125,10 @@ fn two_sided(s: State, live: &[i32], k: Operator) -> Move
     if depth < 2 {
         return Move::Stop(endings::BAD_CODE);
     }
-    let a = live[depth - 2];
+    let d = depth - 2;
+    let a = live[d];
     let b = live[depth - 1];
-    put(s, depth - 2, calculate(k, a, b))
+    put(s, d, calculate(k, a, b))
 }
 
 // Each operator is handed in by its own arm, so that a step tells the operators apart once.
@@ -150,7 +153,8 @@ pub fn negate(s: State, live: &[i32]) -> Move
     if depth < 1 {
         return Move::Stop(endings::BAD_CODE);
     }
-    put(s, depth - 1, negated(live[depth - 1]))
+    let d = depth - 1;
+    put(s, d, negated(live[d]))
 }
 
 pub fn not(s: State, live: &[i32]) -> Move
@@ -160,7 +164,8 @@ pub fn not(s: State, live: &[i32]) -> Move
     if depth < 1 {
         return Move::Stop(endings::BAD_CODE);
     }
-    push(s, depth - 1, truth(live[depth - 1] == 0))
+    let d = depth - 1;
+    push(s, d, truth(live[d] == 0))
 }
 
 pub fn read(s: State, cells: usize, readings: &[i32]) -> Move

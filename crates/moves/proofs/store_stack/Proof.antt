@@ -17,7 +17,7 @@ returns-2 c = rw (le-ltb _ _ (c .before .if1 .left), le-leb _ _ (c .if2 .taken))
 
 returns-3 : tie.Need-returns-3
 unfolding store-stack-move
-returns-3 c = rw (le-ltb _ _ (c .before .before .before .if1 .left), lt-leb _ _ (c .before .before .if2 .left), c .before .moved .ensures, toZ-ofZ {w = w32} (record { sfits = c .t11 .given }))
+returns-3 c = rw (le-ltb _ _ (c .before .before .before .if1 .left), lt-leb _ _ (c .before .before .if2 .left), c .before .moved .ensures, toZ-ofZ {w = w32} (record { sfits = c .t10 .given }))
 
 pub store-stack-spec : {M : Type 1} → statement M
 store-stack-spec = tie.close (tie.spec returns returns-2 (λ c κs. search needs) (λ c. search needs) (λ c. search needs) returns-3)
