@@ -70,12 +70,12 @@ module _ {lent : Lent} {before : List ℕ} {s : State} {cells : List ℤ} {room 
 
   -- ---- the instructions
 
-  pub pushes-int : (v : ℤ) → So (push-int v) (push-int-move s (held s cells) (length cells) v)
+  pub pushes-int : (v : ℤ) → So (push-int v) (push-int-move s (length cells) v)
   unfolding push-int-move effect names-well pushed does
-  pushes-int v = rw count (fits (push-int v) refl refl refl (λ h.
-      does-push g (tried lent (push-int v)) (s .depth) v h (works g (push-int v) (s .depth) (omega arith) (sub-zero (s .depth)) refl (omega arith) refl refl)))
+  pushes-int v = fits (push-int v) refl refl refl (λ h.
+      does-push g (tried lent (push-int v)) (s .depth) v h (works g (push-int v) (s .depth) (omega arith) (sub-zero (s .depth)) refl (omega arith) refl refl))
 
-  pub loads-stack : (k : ℕ) → So (load-stack k) (load-stack-move s (held s cells) (length cells) k)
+  pub loads-stack : (k : ℕ) → So (load-stack k) (load-stack-move s (length cells) (held s cells) k)
   unfolding load-stack-move effect names-well
   loads-stack k = rw count (named (load-stack k) (s .depth) k (s .depth) (omega arith) (sub-zero (s .depth)) refl (λ h.
       rw (getD-take (s .depth) cells k (pos 0) h) (also (pushes-int (getD cells k (pos 0))) (loads g k h))))
@@ -124,12 +124,12 @@ module _ {lent : Lent} {before : List ℕ} {s : State} {cells : List ℤ} {room 
   nots = rw count (enough not (λ h.
       does-push g (tried lent not) (s .depth - 1) _ (omega (arith, g .deep)) (works g not (s .depth - 1) h refl refl (omega arith) refl (top h))))
 
-  pub reads : So read (read-move s (held s cells) (length cells) (lent .readings))
+  pub reads : So read (read-move s (length cells) (lent .readings))
   unfolding read-move effect names-well does taken reading one-used pushed
-  reads = rw count (fits read refl refl refl (λ h.
+  reads = fits read refl refl refl (λ h.
       let rule = works g read (s .depth) (omega arith) (sub-zero (s .depth)) refl (omega arith) refl refl in
       let v = getD (lent .readings) (s .used) (pos 0) in
       by read (leb (length (lent .readings)) (s .used))
       (λ b. stops g (tried lent read) no-reading-left (rw (no-more (lent .readings) (s .used) (leb-true (length (lent .readings)) (s .used) b)) at rule))
       (λ b. also (does-push (record { deep = g .deep; stack = g .stack; within = g .within; size = g .size; past = g .past; whole = g .whole }) (pushed v) (s .depth) v h refl)
-      (rw (add-one (s .used)) (rw (one-more (lent .readings) (s .used) (leb-false (length (lent .readings)) (s .used) b)) at rule)))))
+          (rw (add-one (s .used)) (rw (one-more (lent .readings) (s .used) (leb-false (length (lent .readings)) (s .used) b)) at rule))))

@@ -31,15 +31,15 @@ fn perform(
     match o {
         Op::Bad => Move::Stop(endings::BAD_CODE),
         Op::Halt(h) => Move::Stop(h),
-        Op::PushInt(v) => moves::push_int(s, live, cells, v),
-        Op::LoadStack(k) => moves::load_stack(s, live, cells, k),
+        Op::PushInt(v) => moves::push_int(s, cells, v),
+        Op::LoadStack(k) => moves::load_stack(s, cells, live, k),
         Op::StoreStack(k) => moves::store_stack(s, live, k),
         Op::Jump(a) => moves::jump(s, size, a),
         Op::JumpIfFalse(a) => moves::jump_if_false(s, live, size, a),
         Op::TwoSided(k) => moves::operate(s, live, k),
         Op::Negate => moves::negate(s, live),
         Op::Not => moves::not(s, live),
-        Op::Read => moves::read(s, live, cells, readings),
+        Op::Read => moves::read(s, cells, readings),
         Op::PrintInt => print::print_int(s, live, out),
         Op::PrintStr(q, line) => print::print_str(s, text, q, line, out),
     }

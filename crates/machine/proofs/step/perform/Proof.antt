@@ -33,7 +33,7 @@ returns-2 c = λ lent stack t r n z w before g. told (c .before .o .given .1) (s
 
 returns-3 : tie.Need-returns-3
 unfolding M.decoded
-returns-3 c = λ lent stack t r n z w before g. let f : SFits w32 (c .before .before .o2 .given .0 .0) = search needs in told (c .before .before .o2 .given .1) (rw (c .push-int .ensures, toZ-ofZ f, z, w) (pushes-int g _))
+returns-3 c = λ lent stack t r n z w before g. let f : SFits w32 (c .before .before .o2 .given .0 .0) = search needs in told (c .before .before .o2 .given .1) (rw (c .push-int .ensures, toZ-ofZ f, z) (pushes-int g _))
 
 returns-4 : tie.Need-returns-4
 unfolding M.decoded
@@ -65,7 +65,7 @@ returns-10 c = λ lent stack t r n z w before g. told (c .before .enum-told3 .gi
 
 returns-11 : tie.Need-returns-11
 unfolding M.decoded
-returns-11 c = λ lent stack t r n z w before g. told (c .before .enum-told4 .given .1) (rw (c .read .ensures, r, z, w) (reads g))
+returns-11 c = λ lent stack t r n z w before g. told (c .before .enum-told4 .given .1) (rw (c .read .ensures, r, z) (reads g))
 
 returns-12 : tie.Need-returns-12
 unfolding M.decoded
