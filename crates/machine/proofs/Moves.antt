@@ -132,4 +132,4 @@ module _ {lent : Lent} {before : List ℕ} {s : State} {cells : List ℤ} {room 
       by read (leb (length (lent .readings)) (s .used))
       (λ b. stops g (tried lent read) no-reading-left (rw (no-more (lent .readings) (s .used) (leb-true (length (lent .readings)) (s .used) b)) at rule))
       (λ b. also (does-push (record { deep = g .deep; stack = g .stack; within = g .within; size = g .size; past = g .past; whole = g .whole }) (pushed v) (s .depth) v h refl)
-          (rw (add-one (s .used)) (rw (one-more (lent .readings) (s .used) (leb-false (length (lent .readings)) (s .used) b)) at rule))))
+      (rw (add-one (s .used)) (rw (one-more (lent .readings) (s .used) (leb-false (length (lent .readings)) (s .used) b)) at rule))))
