@@ -5,7 +5,6 @@ ghost use lib.IntN.{ℤ};
 ghost use lib.ListN.{length, take};
 ghost use Prim.Native.Nat.{_%_, _≤_};
 ghost use Rattle.machine.specs.Machine as M;
-ghost use Rattle.machine.specs.Promise.{lends};
 ghost use Rattle.machine.specs.inner.Coded.{Stepped};
 ghost use Rattle.instruction.specs.inner.Coded.{as-instruction};
 use super::print;
@@ -55,7 +54,7 @@ pub fn step(
     out: &mut [u8],
 ) -> Move
     requires { ⌜ (t .depth ≤ length (now cells)) × ((t .index % 2 ≡ 0) × (length (now table) % 2 ≡ 0)) ⌝ }
-    ensures { λ r. ⌜ Stepped (lends (now (text .entry)) (now (table .entry)) (now (readings .entry)) (now (cells .entry)) (now (out .entry))) (M.step (lends (now (text .entry)) (now (table .entry)) (now (readings .entry)) (now (cells .entry)) (now (out .entry)))) t (now (cells .entry)) (now (out .entry)) r (now (out .exit)) ⌝ }
+    ensures { λ r. ⌜ ((lent : M.Lent) → now (text .entry) ≡ lent .text → now (table .entry) ≡ lent .table → now (readings .entry) ≡ lent .readings → Stepped lent (M.step lent) t (now (cells .entry)) (now (out .entry)) r (now (out .exit))) ⌝ }
 {
     let i = t.index;
     if table.len() <= i {

@@ -34,10 +34,7 @@ lent c = lends (now (c .args .text)) (now (c .args .table)) (now (c .args .readi
 
 -- the step, of the run that is lent what this run was lent
 did : (c : tie.After-step Inv-loop μ-loop) → Did (lent (c .before .before .before .before .before .before .before .before)) (now (c .before .before .before .before .before .before .before .before .args .out)) (M.step (lent (c .before .before .before .before .before .before .before .before))) (c .before .before .before .before .loop .s) (c .before .before .before .before .loop .stack) (c .before .before .before .before .loop .out) (c .step .result) (c .step .last .1 .1 .1 .1 .1 .0)
-did c =
-    let g = c .before .before .before .before .loop .inv .0 in
-    let e : lends (now (c .before .before .before .before .before .before .before .before .args .text)) (now (c .before .before .before .before .before .before .before .before .args .table)) (now (c .before .before .before .before .before .before .before .before .args .readings)) (c .before .before .before .before .loop .stack) (c .before .before .before .before .loop .out) ≡ lent (c .before .before .before .before .before .before .before .before) = rw (g .stack, g .size) in
-    rw e at (c .step .ensures (now (c .before .before .before .before .before .before .before .before .args .out)) (rw e g))
+did c = c .step .ensures (lent (c .before .before .before .before .before .before .before .before)) refl refl refl (now (c .before .before .before .before .before .before .before .before .args .out)) (c .before .before .before .before .loop .inv .0)
 
 -- the budget that was left before the step
 left : (c : tie.After-step Inv-loop μ-loop) → c .before .before .before .before .before .before .before .before .args .budget - c .before .before .before .before .loop .steps ≡ suc (c .before .before .before .before .before .before .before .before .args .budget - (c .before .before .before .before .loop .steps + 1))
