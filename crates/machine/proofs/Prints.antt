@@ -13,9 +13,9 @@ use Rattle.rooms.specs.declared.Printed.{Printed}
 use Rattle.rooms.specs.declared.Printed.the-variants.{UpTo, DoesNotFit}
 use Rattle.rooms.specs.inner.Rooms.{with-bytes, Prints}
 use Rattle.machine.specs.Machine.{Lent, printed, written, prints}
-use Rattle.machine.specs.declared.state.State.{State}
-use Rattle.machine.specs.declared.state.Move.{Move}
-use Rattle.machine.specs.declared.state.Move.the-variants.{Go, Stop}
+use Rattle.moves.specs.declared.State.{State}
+use Rattle.moves.specs.declared.Move.{Move}
+use Rattle.moves.specs.declared.Move.the-variants.{Go, Stop}
 use Rattle.machine.specs.inner.Coded.{Good, Did}
 
 -- what becomes of the state

@@ -9,7 +9,7 @@ use borrow.Author.Tests.{eq-eqb, ne-eqb}
 use Rattle.instruction.specs.Endings.{bad-code}
 use Rattle.machine.specs.Machine.{Lent, Machine, fresh, go, stop, step, Stopped, run, end-of, Report, report, whole-run, room-after}
 use Rattle.machine.specs.declared.Report as Code
-use Rattle.machine.specs.declared.state.State.{State}
+use Rattle.moves.specs.declared.State.{State}
 use Rattle.machine.specs.inner.Coded.{machine-of, Good, reports}
 use Rattle.machine.specs.Promise.{Reported, Ran}
 

@@ -12,17 +12,17 @@ use lib.ListN.{length, getD, set, length-set, getElem?}
 use borrow.Author.Tests.{lt-ltb, le-ltb}
 use Rattle.instruction.specs.Endings.{stack-full, bad-code}
 use Rattle.rooms.specs.inner.Rooms.{said}
-use Rattle.instruction.specs.inner.Coded.{as-result, as-instruction}
+use Rattle.instruction.specs.inner.Coded.{as-instruction}
 use Rattle.instruction.specs.declared.decode.Op.{Op}
 use Rattle.instruction.specs.declared.decode.Op.the-variants.{PrintStr}
-use Rattle.instruction.specs.declared.arith.Calculated.{Calculated}
-use Rattle.instruction.specs.declared.arith.Calculated.the-variants.{Value, Ends}
+use Rattle.instruction.specs.Numbers.{Result, value, ends}
 use Rattle.instruction.specs.Instructions.{Instruction, halt, push-int, load-stack, decode, takes, gives, effect}
 use Rattle.machine.specs.Machine.{Lent, Machine, string, closed, go, stop, pushed, jumped, resulting, names-well, prints, does, pairs, tried, decoded, fetched, step}
-use Rattle.machine.specs.declared.state.State.{State}
-use Rattle.machine.specs.declared.state.Move.{Move}
-use Rattle.machine.specs.declared.state.Move.the-variants.{Go, Set, Stop}
-use Rattle.machine.specs.inner.Coded.{live, outside, machine-of, moves-to, pushes, puts, Rule, Good, Did}
+use Rattle.moves.specs.Moves.{moves-to, pushes, puts}
+use Rattle.moves.specs.declared.State.{State}
+use Rattle.moves.specs.declared.Move.{Move}
+use Rattle.moves.specs.declared.Move.the-variants.{Go, Set, Stop}
+use Rattle.machine.specs.inner.Coded.{live, outside, machine-of, Rule, Good, Did}
 use Rattle.machine.proofs.Tried as T
 use Rattle.machine.proofs.Cells.{length-live, live-push, live-drop, peek-live}
 
@@ -56,10 +56,10 @@ module _ {lent : Lent} {before : List ℕ} {s : State} {cells : List ℤ} {room 
         left = rw top (omega arith, record { deep = omega arith; stack = e ∙ g .stack; within = g .within; size = g .size; past = g .past; whole = g .whole });
       }
 
-  pub does-put : (rule : Rule) (d : ℕ) (n : Calculated) → d < length cells → resulting (as-result n) (record { place = s .index / 2; stack = live d cells; outside = outside s room }) ≡ rule (machine-of s cells room) → Did lent before rule s cells room (puts s d n) room
+  pub does-put : (rule : Rule) (d : ℕ) (n : Result) → d < length cells → resulting n (record { place = s .index / 2; stack = live d cells; outside = outside s room }) ≡ rule (machine-of s cells room) → Did lent before rule s cells room (puts s d n) room
   unfolding resulting pushed
-  does-put rule d (Value v) h p = does-push rule d v h p
-  does-put rule d (Ends e) h p = stops rule e p
+  does-put rule d (value v) h p = does-push rule d v h p
+  does-put rule d (ends e) h p = stops rule e p
 
   -- ---- an instruction's tests, by the depth
 

@@ -4,12 +4,10 @@ ghost use Rattle.machine.specs.Machine.{whole-run};
 ghost use Rattle.machine.specs.inner.Coded.{reports};
 ghost use Rattle.machine.specs.Promise.{lends, Reported, Ran};
 use instruction::endings;
-use state::Move;
-use state::State;
+use moves::Move;
+use moves::State;
 
 mod print;
-mod stack;
-mod state;
 mod step;
 
 pub struct Report {

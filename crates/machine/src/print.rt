@@ -1,19 +1,21 @@
 // The instructions that print. A print that does not fit the room prints nothing.
 ghost use mathlib.Core.Bool.{cond};
-ghost use lib.ListN.{length};
-ghost use Prim.Native.Nat.{_≤_};
+ghost use mathlib.Core.Path.{_≡_};
+ghost use mathlib.Core.List.{List};
+ghost use lib.IntN.{ℤ};
+ghost use lib.ListN.{take};
 ghost use Rattle.rooms.specs.inner.Rooms.{said};
 ghost use Rattle.machine.specs.Machine.{Lent, Machine, stop, tried, prints, string, closed};
 ghost use Rattle.instruction.specs.Endings.{bad-code};
 ghost use Rattle.instruction.specs.Instructions.{print-int};
 ghost use Rattle.machine.specs.inner.Coded.{Prints, Stepped};
-use super::state::Move;
-use super::state::State;
-use super::state::moved;
+use rooms::Printed;
 use base::Such;
 use instruction::decimal::put_decimal;
 use instruction::endings;
-use rooms::Printed;
+use moves::Move;
+use moves::State;
+use moves::moved;
 
 // Bytes, with a line feed after them if it is asked for.
 fn write(s: State, bytes: &[u8], line: bool, out: &mut [u8]) -> Move
@@ -40,16 +42,15 @@ pub fn print_str(s: State, text: &[u8], q: usize, line: bool, out: &mut [u8]) ->
     write(s, &text[q..end], line, out)
 }
 
-pub fn print_int(s: State, stack: &[i32], out: &mut [u8]) -> Move
-    requires { ⌜ s .depth ≤ length (now stack) ⌝ }
-    ensures { λ r. ⌜ ((lent : Lent) → Stepped lent (tried lent print-int) s (now (stack .entry)) (now (out .entry)) r (now (out .exit))) ⌝ }
+pub fn print_int(s: State, live: &[i32], out: &mut [u8]) -> Move
+    ensures { λ r. ⌜ ((lent : Lent) (cells : List ℤ) → now (live .entry) ≡ take (s .depth) cells → Stepped lent (tried lent print-int) s cells (now (out .entry)) r (now (out .exit))) ⌝ }
 {
-    let depth = s.depth;
+    let depth = live.len();
     if depth < 1 {
         return Move::Stop(endings::BAD_CODE);
     }
     let mut buffer = [0u8; 20];
-    let from = put_decimal(stack[depth - 1], &mut buffer);
+    let from = put_decimal(live[depth - 1], &mut buffer);
     let t = moved(s, s.index, depth - 1);
     write(t, &buffer[from..], false, out)
 }

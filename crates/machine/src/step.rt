@@ -1,45 +1,45 @@
 // One instruction, from fetching it to the state after it.
 ghost use mathlib.Core.Path.{_≡_};
-ghost use lib.ListN.{length};
-ghost use Prim.Native.Nat.{_*_, _^_, _%_, _≤_, _<_};
+ghost use mathlib.Core.List.{List};
+ghost use lib.IntN.{ℤ};
+ghost use lib.ListN.{length, take};
+ghost use Prim.Native.Nat.{_%_, _≤_};
 ghost use Rattle.machine.specs.Machine as M;
-ghost use Rattle.machine.specs.Promise.{lends};
 ghost use Rattle.machine.specs.inner.Coded.{Stepped};
 ghost use Rattle.instruction.specs.inner.Coded.{as-instruction};
 use super::print;
-use super::stack;
-use super::state::Move;
-use super::state::State;
 use instruction::decode::Op;
 use instruction::decode::decode;
 use instruction::endings;
+use moves::Move;
+use moves::State;
 
-// What was decoded, at the state past it.
+// What was decoded, at the state past it: the live cells are the lowest of a stack of as many as `cells`, and `size` is the table's.
 fn perform(
     s: State,
     o: Op,
-    count: usize,
+    size: usize,
     text: &[u8],
     readings: &[i32],
-    cells: &[i32],
+    live: &[i32],
+    cells: usize,
     out: &mut [u8],
 ) -> Move
-    requires { ⌜ (s .depth ≤ length (now cells)) × (count * 2 < 2 ^ 64) ⌝ }
-    ensures { λ r. ⌜ ((lent : M.Lent) → now (text .entry) ≡ lent .text → now (readings .entry) ≡ lent .readings → count ≡ M.pairs lent → Stepped lent (M.decoded lent (as-instruction o)) s (now (cells .entry)) (now (out .entry)) r (now (out .exit))) ⌝ }
+    ensures { λ r. ⌜ ((lent : M.Lent) (stack : List ℤ) → now (text .entry) ≡ lent .text → now (readings .entry) ≡ lent .readings → size ≡ length (lent .table) → cells ≡ length stack → now (live .entry) ≡ take (s .depth) stack → Stepped lent (M.decoded lent (as-instruction o)) s stack (now (out .entry)) r (now (out .exit))) ⌝ }
 {
     match o {
         Op::Bad => Move::Stop(endings::BAD_CODE),
         Op::Halt(h) => Move::Stop(h),
-        Op::PushInt(v) => stack::push_int(s, cells, v),
-        Op::LoadStack(k) => stack::load_stack(s, cells, k),
-        Op::StoreStack(k) => stack::store_stack(s, cells, k),
-        Op::Jump(a) => stack::jump(s, count, a),
-        Op::JumpIfFalse(a) => stack::jump_if_false(s, cells, count, a),
-        Op::TwoSided(k) => stack::operate(s, cells, k),
-        Op::Negate => stack::negate(s, cells),
-        Op::Not => stack::not(s, cells),
-        Op::Read => stack::read(s, readings, cells),
-        Op::PrintInt => print::print_int(s, cells, out),
+        Op::PushInt(v) => moves::push_int(s, cells, v),
+        Op::LoadStack(k) => moves::load_stack(s, cells, live, k),
+        Op::StoreStack(k) => moves::store_stack(s, live, k),
+        Op::Jump(a) => moves::jump(s, size, a),
+        Op::JumpIfFalse(a) => moves::jump_if_false(s, live, size, a),
+        Op::TwoSided(k) => moves::operate(s, live, k),
+        Op::Negate => moves::negate(s, live),
+        Op::Not => moves::not(s, live),
+        Op::Read => moves::read(s, cells, readings),
+        Op::PrintInt => print::print_int(s, live, out),
         Op::PrintStr(q, line) => print::print_str(s, text, q, line, out),
     }
 }
@@ -54,18 +54,28 @@ pub fn step(
     out: &mut [u8],
 ) -> Move
     requires { ⌜ (t .depth ≤ length (now cells)) × ((t .index % 2 ≡ 0) × (length (now table) % 2 ≡ 0)) ⌝ }
-    ensures { λ r. ⌜ Stepped (lends (now (text .entry)) (now (table .entry)) (now (readings .entry)) (now (cells .entry)) (now (out .entry))) (M.step (lends (now (text .entry)) (now (table .entry)) (now (readings .entry)) (now (cells .entry)) (now (out .entry)))) t (now (cells .entry)) (now (out .entry)) r (now (out .exit)) ⌝ }
+    ensures { λ r. ⌜ ((lent : M.Lent) → now (text .entry) ≡ lent .text → now (table .entry) ≡ lent .table → now (readings .entry) ≡ lent .readings → Stepped lent (M.step lent) t (now (cells .entry)) (now (out .entry)) r (now (out .exit))) ⌝ }
 {
     let i = t.index;
     if table.len() <= i {
         return Move::Stop(endings::BAD_CODE);
     }
     let o = decode(table[i], table[i + 1]);
+    let depth = t.depth;
     let s = State {
         index: i + 2,
-        depth: t.depth,
+        depth,
         used: t.used,
         printed: t.printed,
     };
-    perform(s, o, table.len() / 2, text, readings, cells, out)
+    perform(
+        s,
+        o,
+        table.len(),
+        text,
+        readings,
+        &cells[..depth],
+        cells.len(),
+        out,
+    )
 }

@@ -12,8 +12,8 @@ use mir.Syntax.{w32}
 use mir.Val.{SFits}
 use mir.Facts.{toZ-ofZ}
 use Rattle.machine.specs.Machine as M
-use Rattle.machine.specs.declared.state.State.{State}
-use Rattle.machine.specs.declared.state.Move.the-variants.{Put, Set}
+use Rattle.moves.specs.declared.State.{State}
+use Rattle.moves.specs.declared.Move.the-variants.{Put, Set}
 use Rattle.machine.specs.inner.Coded.{live, machine-of, Good, Did}
 use Rattle.machine.specs.Promise.{lends}
 use Rattle.machine.proofs.Runs.{run-goes, run-stops, reported, odd-table, even-table}
@@ -34,14 +34,15 @@ lent c = lends (now (c .args .text)) (now (c .args .table)) (now (c .args .readi
 
 -- the step, of the run that is lent what this run was lent
 did : (c : tie.After-step Inv-loop μ-loop) → Did (lent (c .before .before .before .before .before .before .before .before)) (now (c .before .before .before .before .before .before .before .before .args .out)) (M.step (lent (c .before .before .before .before .before .before .before .before))) (c .before .before .before .before .loop .s) (c .before .before .before .before .loop .stack) (c .before .before .before .before .loop .out) (c .step .result) (c .step .last .1 .1 .1 .1 .1 .0)
-did c =
-    let g = c .before .before .before .before .loop .inv .0 in
-    let e : lends (now (c .before .before .before .before .before .before .before .before .args .text)) (now (c .before .before .before .before .before .before .before .before .args .table)) (now (c .before .before .before .before .before .before .before .before .args .readings)) (c .before .before .before .before .loop .stack) (c .before .before .before .before .loop .out) ≡ lent (c .before .before .before .before .before .before .before .before) = rw (g .stack, g .size) in
-    rw e at (c .step .ensures (now (c .before .before .before .before .before .before .before .before .args .out)) (rw e g))
+did c = c .step .ensures (lent (c .before .before .before .before .before .before .before .before)) refl refl refl (now (c .before .before .before .before .before .before .before .before .args .out)) (c .before .before .before .before .loop .inv .0)
 
 -- the budget that was left before the step
 left : (c : tie.After-step Inv-loop μ-loop) → c .before .before .before .before .before .before .before .before .args .budget - c .before .before .before .before .loop .steps ≡ suc (c .before .before .before .before .before .before .before .before .args .budget - (c .before .before .before .before .loop .steps + 1))
 left c = omega arith
+
+-- the step was within the budget, and what is left of it falls
+counted : (c : tie.After-step Inv-loop μ-loop) → (c .before .before .before .before .loop .steps + 1 ≤ c .before .before .before .before .before .before .before .before .args .budget) × (c .before .before .before .before .before .before .before .before .args .budget - (c .before .before .before .before .loop .steps + 1) < c .before .before .before .before .before .before .before .before .args .budget - c .before .before .before .before .loop .steps)
+counted c = (omega arith, omega arith)
 
 -- the run from where it went on
 again : (c : tie.After-step Inv-loop μ-loop) {m : M.Machine} → M.go m ≡ M.step (lent (c .before .before .before .before .before .before .before .before)) (machine-of (c .before .before .before .before .loop .s) (c .before .before .before .before .loop .stack) (c .before .before .before .before .loop .out)) → M.run (lent (c .before .before .before .before .before .before .before .before)) (c .before .before .before .before .before .before .before .before .args .budget - (c .before .before .before .before .loop .steps + 1)) m ≡ M.run (lent (c .before .before .before .before .before .before .before .before)) (c .before .before .before .before .before .before .before .before .args .budget) M.fresh
@@ -68,10 +69,10 @@ step-requires : tie.Need-step-requires Inv-loop μ-loop
 step-requires c κs = (c .before .before .before .loop .inv .0 .deep, (c .before .before .before .loop .inv .0 .whole, c .before .before .before .before .if1 .left))
 
 loop-less : tie.Need-loop-less Inv-loop μ-loop
-loop-less c = omega arith
+loop-less c = counted (c .before .before .before .before .before) .1
 
 loop-again : tie.Need-loop-again Inv-loop μ-loop
-loop-again c = let d = rw (c .before .t .given .1) at (did (c .before .before .before .before .before)) in (d .left, (omega arith, again (c .before .before .before .before .before) (d .seen)))
+loop-again c = let d = rw (c .before .t .given .1) at (did (c .before .before .before .before .before)) in (d .left, (counted (c .before .before .before .before .before) .0, again (c .before .before .before .before .before) (d .seen)))
 
 sub-v : tie.Need-sub-v Inv-loop μ-loop
 sub-v c = put-left (c .before .before .before .before .before .before) (c .before .before .t2 .given .1) .0
@@ -83,12 +84,12 @@ slice-set-from-v : tie.Need-slice-set-from-v Inv-loop μ-loop
 slice-set-from-v c = omega (arith, put-left (c .before .before .before .before .before .before) (c .before .before .t2 .given .1) .0, put-left (c .before .before .before .before .before .before) (c .before .before .t2 .given .1) .1)
 
 loop-less-2 : tie.Need-loop-less-2 Inv-loop μ-loop
-loop-less-2 c = omega arith
+loop-less-2 c = counted (c .before .before .before .before .before .before) .1
 
 loop-again-2 : tie.Need-loop-again-2 Inv-loop μ-loop
 loop-again-2 c = let d = rw (c .before .before .t2 .given .1) at (did (c .before .before .before .before .before .before)) in
     let f : SFits w32 (c .before .before .t2 .given .0 .1 .0) = search needs in
-    rw (toZ-ofZ f) (d .left .1, (omega arith, again (c .before .before .before .before .before .before) (d .seen)))
+    rw (toZ-ofZ f) (d .left .1, (counted (c .before .before .before .before .before .before) .0, again (c .before .before .before .before .before .before) (d .seen)))
 
 mul-v-2 : tie.Need-mul-v-2 Inv-loop μ-loop
 mul-v-2 c = omega (arith, c .before .before .before .before .before .before .before .before .before .before .before .before .before .good, set-left (c .before .before .before .before .before) (c .before .t3 .given .1))
@@ -97,12 +98,12 @@ slice-set-from-v-2 : tie.Need-slice-set-from-v-2 Inv-loop μ-loop
 slice-set-from-v-2 c = set-left (c .before .before .before .before .before) (c .before .t3 .given .1)
 
 loop-less-3 : tie.Need-loop-less-3 Inv-loop μ-loop
-loop-less-3 c = omega arith
+loop-less-3 c = counted (c .before .before .before .before .before) .1
 
 loop-again-3 : tie.Need-loop-again-3 Inv-loop μ-loop
 loop-again-3 c = let d = rw (c .before .t3 .given .1) at (did (c .before .before .before .before .before)) in
     let f : SFits w32 (c .before .t3 .given .0 .1 .1 .0) = search needs in
-    rw (toZ-ofZ f) (d .left .1, (omega arith, again (c .before .before .before .before .before) (d .seen)))
+    rw (toZ-ofZ f) (d .left .1, (counted (c .before .before .before .before .before) .0, again (c .before .before .before .before .before) (d .seen)))
 
 same-length : tie.Need-same-length Inv-loop μ-loop
 same-length c = c .before .before .before .before .before .before .before .before .before .before .loop .inv .0 .stack

@@ -1,16 +1,14 @@
 -- How the code holds what the definitions speak of: what each of its values means there.
 use mathlib.Core.Path.{_≡_}
 use mathlib.Core.List.{List, [], _∷_}
-use Prim.Native.Nat.{ℕ, zero, suc, _+_, _-_, _/_, _%_, _≤_, _<_}
+use Prim.Native.Nat.{ℕ, zero, suc, _-_, _/_, _%_, _≤_, _<_}
 use lib.IntN.{ℤ, pos}
 use lib.ListN.{length, getD, take, drop, set}
 use Rattle.machine.specs.Machine.{Lent, Outside, Machine, Step, go, stop}
-use Rattle.instruction.specs.declared.arith.Calculated.{Calculated}
-use Rattle.instruction.specs.declared.arith.Calculated.the-variants.{Value, Ends}
+use Rattle.moves.specs.declared.State.{State}
+use Rattle.moves.specs.declared.Move.{Move}
+use Rattle.moves.specs.declared.Move.the-variants.{Go, Put, Set, Stop}
 use Rattle.machine.specs.declared.Report.{Report}
-use Rattle.machine.specs.declared.state.State.{State}
-use Rattle.machine.specs.declared.state.Move.{Move}
-use Rattle.machine.specs.declared.state.Move.the-variants.{Go, Put, Set, Stop}
 
 -- ---- the stack: a slice, and a depth below which its cells are live
 
@@ -40,17 +38,6 @@ pub record Good (lent : Lent) (before : List ℕ) (s : State) (cells : List ℤ)
 
 -- ---- a step
 
-abbrev pub moves-to : State → ℕ → ℕ → State
-moves-to s index depth = record { index = index; depth = depth; used = s .used; printed = s .printed }
-
--- a number on the d lowest cells, or what a calculation gives
-abbrev pub pushes : State → ℕ → ℤ → Move
-pushes s d v = Put (moves-to s (s .index) (d + 1)) v
-
-abbrev pub puts : State → ℕ → Calculated → Move
-puts s d (Value v) = pushes s d v
-puts s d (Ends e) = Stop e
-
 abbrev pub as-step : Move → List ℤ → List ℕ → Step
 as-step (Go t) cells room = go (machine-of t cells room)
 as-step (Put t v) cells room = go (machine-of t (set cells (t .depth - 1) v) room)
@@ -76,10 +63,6 @@ pub record Did (lent : Lent) (before : List ℕ) (rule : Rule) (s : State) (cell
 -- from a good state, in a room that was `before` when the run began, r is what the rule says
 abbrev pub Stepped : Lent → Rule → State → List ℤ → List ℕ → Move → List ℕ → Type 0
 Stepped lent rule s cells room r room′ = (before : List ℕ) → Good lent before s cells room → Did lent before rule s cells room r room′
-
--- whatever the room: the rule does not print
-abbrev pub Does : Lent → Rule → State → List ℤ → Move → Type 0
-Does lent rule s cells r = (room : List ℕ) → Stepped lent rule s cells room r room
 
 -- whatever the stack: the rule only prints
 abbrev pub Prints : Lent → Rule → State → List ℕ → Move → List ℕ → Type 0

@@ -9,9 +9,10 @@ use mir.Facts.{toZ-ofZ}
 use Rattle.instruction.specs.declared.decode.Op.{Op}
 use Rattle.instruction.specs.inner.Coded.{as-instruction}
 use Rattle.machine.specs.Machine as M
-use Rattle.machine.specs.declared.state.State.{State}
-use Rattle.machine.specs.declared.state.Move.{Move}
+use Rattle.moves.specs.declared.State.{State}
+use Rattle.moves.specs.declared.Move.{Move}
 use Rattle.machine.specs.inner.Coded.{Did}
+use Rattle.machine.proofs.Moves.{pushes-int, loads-stack, stores-stack, jumps, jumps-if-false, operates, negates, nots, reads}
 use Rattle.machine.proofs.Steps.{stops, halts, says, also}
 use borrow.Author.Needs.{needs}
 use Rattle.machine.proofs.step.perform.Statement.{statement}
@@ -21,58 +22,58 @@ use Rattle.machine.proofs.step.perform.Tie as tie
 told : {o o′ : Op} → o ≡ o′ → {lent : M.Lent} {before : List ℕ} {s : State} {cells : List ℤ} {room room′ : List ℕ} {r : Move} → Did lent before (M.decoded lent (as-instruction o′)) s cells room r room′ → Did lent before (M.decoded lent (as-instruction o)) s cells room r room′
 told e d = rw e d
 
+-- it is lent the text t and the readings r; the table's size is n and the stack's is z, and w is what is handed of it
 returns : tie.Need-returns
 unfolding M.decoded
-returns c = λ lent t r n before g. told (c .enum-told .given .1) (stops g _ 8 refl)
+returns c = λ lent stack t r n z w before g. told (c .enum-told .given .1) (stops g _ 8 refl)
 
 returns-2 : tie.Need-returns-2
 unfolding M.decoded
-returns-2 c = λ lent t r n before g. told (c .before .o .given .1) (stops g _ _ (halts g _))
+returns-2 c = λ lent stack t r n z w before g. told (c .before .o .given .1) (stops g _ _ (halts g _))
 
 returns-3 : tie.Need-returns-3
 unfolding M.decoded
-returns-3 c = λ lent t r n before g. let f : SFits w32 (c .before .before .o2 .given .0 .0) = search needs in
-    told (c .before .before .o2 .given .1) (rw (toZ-ofZ f) at (c .push-int .ensures lent _ before g))
+returns-3 c = λ lent stack t r n z w before g. let f : SFits w32 (c .before .before .o2 .given .0 .0) = search needs in told (c .before .before .o2 .given .1) (rw (c .push-int .ensures, toZ-ofZ f, z) (pushes-int g _))
 
 returns-4 : tie.Need-returns-4
 unfolding M.decoded
-returns-4 c = λ lent t r n before g. told (c .before .before .o3 .given .1) (c .load-stack .ensures lent _ before g)
+returns-4 c = λ lent stack t r n z w before g. told (c .before .before .o3 .given .1) (rw (c .load-stack .ensures, z, w) (loads-stack g _))
 
 returns-5 : tie.Need-returns-5
 unfolding M.decoded
-returns-5 c = λ lent t r n before g. told (c .before .before .o4 .given .1) (c .store-stack .ensures lent _ before g)
+returns-5 c = λ lent stack t r n z w before g. told (c .before .before .o4 .given .1) (rw (c .store-stack .ensures, w) (stores-stack g _))
 
 returns-6 : tie.Need-returns-6
 unfolding M.decoded
-returns-6 c = λ lent t r n before g. told (c .before .before .o5 .given .1) (c .jump .ensures lent _ n _ before g)
+returns-6 c = λ lent stack t r n z w before g. told (c .before .before .o5 .given .1) (rw (c .jump .ensures, n) (jumps g _))
 
 returns-7 : tie.Need-returns-7
 unfolding M.decoded
-returns-7 c = λ lent t r n before g. told (c .before .before .o6 .given .1) (c .jump-if-false .ensures lent n _ before g)
+returns-7 c = λ lent stack t r n z w before g. told (c .before .before .o6 .given .1) (rw (c .jump-if-false .ensures, n, w) (jumps-if-false g _))
 
 returns-8 : tie.Need-returns-8
 unfolding M.decoded
-returns-8 c = λ lent t r n before g. told (c .before .before .o7 .given .1) (c .operate .ensures lent _ before g)
+returns-8 c = λ lent stack t r n z w before g. told (c .before .before .o7 .given .1) (rw (c .operate .ensures, w) (operates g _))
 
 returns-9 : tie.Need-returns-9
 unfolding M.decoded
-returns-9 c = λ lent t r n before g. told (c .before .enum-told2 .given .1) (c .negate .ensures lent _ before g)
+returns-9 c = λ lent stack t r n z w before g. told (c .before .enum-told2 .given .1) (rw (c .negate .ensures, w) (negates g))
 
 returns-10 : tie.Need-returns-10
 unfolding M.decoded
-returns-10 c = λ lent t r n before g. told (c .before .enum-told3 .given .1) (c .not .ensures lent _ before g)
+returns-10 c = λ lent stack t r n z w before g. told (c .before .enum-told3 .given .1) (rw (c .not .ensures, w) (nots g))
 
 returns-11 : tie.Need-returns-11
 unfolding M.decoded
-returns-11 c = λ lent t r n before g. told (c .before .enum-told4 .given .1) (c .read .ensures lent r _ before g)
+returns-11 c = λ lent stack t r n z w before g. told (c .before .enum-told4 .given .1) (rw (c .read .ensures, r, z) (reads g))
 
 returns-12 : tie.Need-returns-12
 unfolding M.decoded
-returns-12 c = λ lent t r n before g. told (c .before .before .before .before .enum-told5 .given .1) (c .before .before .print-int .ensures lent before g)
+returns-12 c = λ lent stack t r n z w before g. told (c .before .before .before .before .enum-told5 .given .1) (c .before .before .print-int .ensures lent stack w before g)
 
 returns-13 : tie.Need-returns-13
 unfolding M.decoded
-returns-13 c = λ lent t r n before g. told (c .before .before .before .before .before .o8 .given .1) (also (c .before .before .print-str .ensures lent _ before g) (rw t (says lent _ _ _)))
+returns-13 c = λ lent stack t r n z w before g. told (c .before .before .before .before .before .o8 .given .1) (also (c .before .before .print-str .ensures lent _ before g) (rw t (says lent _ _ _)))
 
 pub perform-spec : {M : Type 1} → statement M
 perform-spec =

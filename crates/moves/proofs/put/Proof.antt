@@ -1,10 +1,10 @@
--- `stack::put` meets its contract. Assumes nothing.
+-- `put` meets its contract. Assumes nothing.
 use mir.Syntax.{w32}
 use mir.Val.{SFits}
 use mir.Facts.{toZ-ofZ}
 use borrow.Author.Needs.{needs}
-use Rattle.machine.proofs.stack.put.Statement.{statement}
-use Rattle.machine.proofs.stack.put.Tie as tie
+use Rattle.moves.proofs.put.Statement.{statement}
+use Rattle.moves.proofs.put.Tie as tie
 
 returns : tie.Need-returns
 returns c = let f : SFits w32 (c .before .before .n .given .0 .0) = search needs in rw (c .before .before .n .given .1) (rw (toZ-ofZ f) at (c .push .ensures))
