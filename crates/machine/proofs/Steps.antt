@@ -18,7 +18,7 @@ use Rattle.instruction.specs.declared.decode.Op.the-variants.{PrintStr}
 use Rattle.instruction.specs.Numbers.{Result, value, ends}
 use Rattle.instruction.specs.Instructions.{Instruction, halt, push-int, load-stack, decode, takes, gives, effect}
 use Rattle.machine.specs.Machine.{Lent, Machine, string, closed, go, stop, pushed, jumped, resulting, names-well, prints, does, pairs, tried, decoded, fetched, step}
-use Rattle.moves.specs.Moves.{moves-to, pushes, puts}
+use Rattle.moves.specs.inner.Moves.{moves-to, pushes, puts}
 use Rattle.moves.specs.declared.State.{State}
 use Rattle.moves.specs.declared.Move.{Move}
 use Rattle.moves.specs.declared.Move.the-variants.{Go, Set, Stop}

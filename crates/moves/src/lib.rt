@@ -4,7 +4,7 @@
 ghost use mathlib.Core.Path.{_≡_};
 ghost use Prim.Native.Nat.{_+_, _^_, _<_};
 ghost use Rattle.instruction.specs.inner.Coded.{as-result, as-two-sided};
-ghost use Rattle.moves.specs.Moves.{moves-to, pushes, puts, push-int-move, load-stack-move, store-stack-move, jump-move, jump-if-false-move, two-sided-move, negate-move, not-move, read-move};
+ghost use Rattle.moves.specs.inner.Moves.{moves-to, pushes, puts, push-int-move, load-stack-move, store-stack-move, jump-move, jump-if-false-move, two-sided-move, negate-move, not-move, read-move};
 use instruction::arith::Calculated;
 use instruction::arith::Operator;
 use instruction::arith::calculate;

@@ -1,6 +1,6 @@
 -- `jump` meets its contract. Assumes nothing.
 use borrow.Author.Tests.{le-leb, lt-leb}
-use Rattle.moves.specs.Moves.{jump-move}
+use Rattle.moves.specs.inner.Moves.{jump-move}
 use borrow.Author.Needs.{needs}
 use Rattle.moves.proofs.jump.Statement.{statement}
 use Rattle.moves.proofs.jump.Tie as tie

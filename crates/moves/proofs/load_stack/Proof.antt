@@ -2,7 +2,7 @@
 use borrow.Author.Tests.{le-leb, lt-leb}
 use mir.Syntax.{w32}
 use mir.Facts.{toZ-ofZ}
-use Rattle.moves.specs.Moves.{load-stack-move}
+use Rattle.moves.specs.inner.Moves.{load-stack-move}
 use borrow.Author.Needs.{needs}
 use Rattle.moves.proofs.load_stack.Statement.{statement}
 use Rattle.moves.proofs.load_stack.Tie as tie

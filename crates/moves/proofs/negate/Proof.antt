@@ -2,7 +2,7 @@
 use borrow.Author.Tests.{lt-ltb, le-ltb}
 use mir.Syntax.{w32}
 use mir.Facts.{toZ-ofZ}
-use Rattle.moves.specs.Moves.{negate-move}
+use Rattle.moves.specs.inner.Moves.{negate-move}
 use borrow.Author.Needs.{needs}
 use Rattle.moves.proofs.negate.Statement.{statement}
 use Rattle.moves.proofs.negate.Tie as tie

@@ -4,7 +4,7 @@ use mir.Syntax.{w32}
 use mir.Facts.{toZ-ofZ}
 use Rattle.instruction.specs.Numbers.{negation}
 use Rattle.instruction.proofs.Signed.{zero-test}
-use Rattle.moves.specs.Moves.{not-move}
+use Rattle.moves.specs.inner.Moves.{not-move}
 use borrow.Author.Needs.{needs}
 use Rattle.moves.proofs.not.Statement.{statement}
 use Rattle.moves.proofs.not.Tie as tie

@@ -1,7 +1,7 @@
 -- `push_int` meets its contract. Assumes nothing.
 use borrow.Author.Tests.{le-leb, lt-leb}
 use mir.Facts.{toZ-ofZ}
-use Rattle.moves.specs.Moves.{push-int-move}
+use Rattle.moves.specs.inner.Moves.{push-int-move}
 use borrow.Author.Needs.{needs}
 use Rattle.moves.proofs.push_int.Statement.{statement}
 use Rattle.moves.proofs.push_int.Tie as tie

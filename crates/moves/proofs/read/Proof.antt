@@ -2,7 +2,7 @@
 use borrow.Author.Tests.{le-leb, lt-leb}
 use mir.Syntax.{w32}
 use mir.Facts.{toZ-ofZ}
-use Rattle.moves.specs.Moves.{read-move}
+use Rattle.moves.specs.inner.Moves.{read-move}
 use borrow.Author.Needs.{needs}
 use Rattle.moves.proofs.read.Statement.{statement}
 use Rattle.moves.proofs.read.Tie as tie

@@ -5,7 +5,7 @@ use denote.Ref.{now}
 use lib.ListN.{length}
 use mir.Syntax.{w32}
 use mir.Facts.{toZ-ofZ}
-use Rattle.moves.specs.Moves.{store-stack-move}
+use Rattle.moves.specs.inner.Moves.{store-stack-move}
 use borrow.Author.Needs.{needs}
 use Rattle.moves.proofs.store_stack.Statement.{statement}
 use Rattle.moves.proofs.store_stack.Tie as tie

@@ -9,7 +9,7 @@ use mir.Syntax.{w32}
 use mir.Facts.{toZ-ofZ}
 use Rattle.instruction.specs.Numbers.{calculate}
 use Rattle.instruction.specs.inner.Coded.{as-result, as-two-sided}
-use Rattle.moves.specs.Moves.{two-sided-move}
+use Rattle.moves.specs.inner.Moves.{two-sided-move}
 use borrow.Author.Needs.{needs}
 use Rattle.moves.proofs.two_sided.Statement.{statement}
 use Rattle.moves.proofs.two_sided.Tie as tie
