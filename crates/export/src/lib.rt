@@ -6,9 +6,7 @@ ghost use Rattle.machine.specs.Promise.{lends};
 ghost use Rattle.limits.specs.Limits.{Sizes};
 ghost use Rattle.compiler.specs.Compiled.{Compiled, With-answer};
 ghost use Rattle.export.specs.Reports.{RanInto, CompiledInto, RanTextInto};
-use kit::Outcome;
 use limits::Limits;
-use tables::Answer;
 
 // A text compiled into the table; the report is its number, place, instructions, cells and stack need, where a refusal has only the first two.
 #[no_mangle]
@@ -17,16 +15,7 @@ pub extern "C" fn o_compile(text: &[u8], table: &mut [i32], report: &mut [u64; 5
     requires { λ sizes. do ⌜ record { word = (← ⟦Limits::WORD⟧); string = (← ⟦Limits::STRING⟧); literal = (← ⟦Limits::LITERAL⟧) } ≡ sizes ⌝ }
     ensures { λ sizes _. do ⌜ With-answer (Compiled (record { text = (← ⟦Limits::TEXT⟧ .entry); sizes = sizes; nesting = (← ⟦Limits::NESTING⟧ .entry); declarations = (← ⟦Limits::DECLARATIONS⟧ .entry); instructions = (← ⟦Limits::INSTRUCTIONS⟧ .entry) }) (now (text .entry)) (length (now (table .entry)))) (CompiledInto (length (now (table .entry))) (now (report .exit)) (now (table .exit))) ⌝ }
 {
-    let a = compiler::compile(text, table);
-    match a {
-        Answer::Refused(why, place) => {
-            let number = base::number(why);
-            *report = [number as u64, place as u64, 0, 0, 0];
-        }
-        Answer::Accepted(c) => {
-            *report = [0, 0, c.instructions as u64, c.cells as u64, c.need as u64];
-        }
-    }
+    *report = reports::of_answer(compiler::compile(text, table));
 }
 
 // A run of the table; the report is its ending, steps, readings used and output length.
@@ -42,13 +31,7 @@ pub extern "C" fn o_run(
 )
     ensures { λ _. ⌜ RanInto (whole-run (lends (now (text .entry)) (now (table .entry)) (now (readings .entry)) (now (stack .entry)) (now (out .entry))) budget) (now (stack .entry)) (now (out .entry)) (now (report .exit)) (now (stack .exit)) (now (out .exit)) ⌝ }
 {
-    let r = machine::run(text, table, readings, budget, stack, out);
-    *report = [
-        r.ending as u64,
-        r.steps as u64,
-        r.used as u64,
-        r.length as u64,
-    ];
+    *report = reports::of_run(machine::run(text, table, readings, budget, stack, out));
 }
 
 // A text compiled into the table, and its own code run. The report is the refusal's number and place; ending, steps, readings used and output length;
@@ -67,23 +50,6 @@ pub extern "C" fn o_run_text(
     requires { λ sizes. do ⌜ record { word = (← ⟦Limits::WORD⟧); string = (← ⟦Limits::STRING⟧); literal = (← ⟦Limits::LITERAL⟧) } ≡ sizes ⌝ }
     ensures { λ sizes _. do ⌜ With-answer (Compiled (record { text = (← ⟦Limits::TEXT⟧ .entry); sizes = sizes; nesting = (← ⟦Limits::NESTING⟧ .entry); declarations = (← ⟦Limits::DECLARATIONS⟧ .entry); instructions = (← ⟦Limits::INSTRUCTIONS⟧ .entry) }) (now (text .entry)) (length (now (table .entry)))) (RanTextInto (now (text .entry)) (now (readings .entry)) budget (now (stack .entry)) (now (out .entry)) (length (now (table .entry))) (now (report .exit)) (now (table .exit)) (now (stack .exit)) (now (out .exit))) ⌝ }
 {
-    let o = kit::run_text(text, readings, budget, table, stack, out);
-    match o {
-        Outcome::Refused(why, place) => {
-            let number = base::number(why);
-            *report = [number as u64, place as u64, 0, 0, 0, 0, 0];
-        }
-        Outcome::Ran(ran) => {
-            let sent = kit::to_send(ran.ending, ran.length, out);
-            *report = [
-                0,
-                0,
-                ran.ending as u64,
-                ran.steps as u64,
-                ran.used as u64,
-                ran.length as u64,
-                sent.len() as u64,
-            ];
-        }
-    }
+    let c = kit::run_text(text, readings, budget, table, stack, out);
+    *report = reports::of_text(c, out);
 }

@@ -11,9 +11,9 @@ fn main() {
         return;
     };
     let mut room = [0u8; Station::ROOM];
-    let mut page = [0u8; programs::PAGE];
-    let mut note = [0u8; programs::LINE];
-    let s = tells::feed(
+    let mut page = [0u8; tells::PAGE];
+    let mut note = [0u8; tells::LINE];
+    let s = programs::feed(
         &text[..size],
         &numbers[..count],
         &mut room,

@@ -1,14 +1,11 @@
--- Demand 3 as a promise: what comes of a text, by its own code and by its sentences, and what may be sent on to the feed.
+-- Demand 3 as a promise: what comes of a text, by its own code and by its sentences.
 use mathlib.Core.Path.{_≡_}
-use mathlib.Core.List.{List, []}
-use mathlib.Core.Bool.{cond, _&&_}
+use mathlib.Core.List.{List}
 use Prim.Native.Nat.{ℕ, _≤_}
-use lib.Dec.{eqb, leb}
 use lib.IntN.{ℤ}
-use lib.ListN.{length, take}
+use lib.ListN.{length}
 use Rattle.base.specs.declared.Refusal.{Refusal}
 use Rattle.base.specs.Answers.{Answer, given, refused}
-use Rattle.instruction.specs.Endings.{normal}
 use Rattle.instruction.specs.Instructions.{numbers}
 use Rattle.machine.specs.Machine.{Report, report, whole-run}
 use Rattle.machine.specs.Promise as Promise
@@ -16,8 +13,8 @@ use Rattle.machine.specs.Promise.{lends}
 use Rattle.machine.specs.declared.Report as Code
 use Rattle.meaning.specs.Meaning.{meaning}
 use Rattle.compiler.specs.Compiled.{Accepted, code-of-text, need-of, table-after}
-use Rattle.kit.specs.declared.Outcome.{Outcome}
-use Rattle.kit.specs.declared.Outcome.the-variants.{Ran, Refused}
+use Rattle.reports.specs.declared.Came.{Came}
+use Rattle.reports.specs.declared.Came.the-variants.{Ran, Refused}
 
 -- what the sentences of an accepted text come to
 unfoldable pub worked-out : List ℤ → ℕ → ℕ → Accepted → Report
@@ -33,15 +30,11 @@ module _ (text : List ℕ) (readings : List ℤ) (budget : ℕ) (stack : List �
   Faithful a = need-of a ≤ length stack → own-run a ≡ worked-out readings (length out) budget a
 
   -- the outcome, and the stack and the room after it
-  pub data Comes-to : Answer Accepted → Outcome → List ℤ → List ℕ → Type 0 where
+  pub data Comes-to : Answer Accepted → Came → List ℤ → List ℕ → Type 0 where
     refused-so : (why : Refusal) (p : ℕ) → Comes-to (refused why p) (Refused why p) stack out
     ran : (a : Accepted) (r : Code.Report) {stack′ : List ℤ} {out′ : List ℕ} → Promise.Ran (own-run a) stack out r stack′ out′ → Faithful a → Comes-to (given a) (Ran r) stack′ out′
 
   -- with the code table, of n numbers, as the compiler leaves it
-  pub record Outcome-of (n : ℕ) (r : Outcome) (table′ : List ℤ) (stack′ : List ℤ) (out′ : List ℕ) (a : Answer Accepted) : Type 0 where
+  pub record Outcome-of (n : ℕ) (r : Came) (table′ : List ℤ) (stack′ : List ℤ) (out′ : List ℕ) (a : Answer Accepted) : Type 0 where
     pub comes : Comes-to a r stack′ out′
     pub numbers : table′ ≡ table-after n a
-
--- only ending 0 may be sent on to the feed
-unfoldable pub sendable : ℕ → ℕ → List ℕ → List ℕ
-sendable ending length′ out = cond (eqb ending normal && leb length′ (length out)) (take length′ out) []

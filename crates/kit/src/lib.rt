@@ -1,20 +1,12 @@
-// What users call: a text compiled and run, and what may be sent on to the feed.
+// What users call: a text compiled and run.
 ghost use mathlib.Core.Path.{_≡_};
 ghost use lib.ListN.{length};
 ghost use Rattle.limits.specs.Limits.{Sizes};
 ghost use Rattle.compiler.specs.Compiled.{Compiled, With-answer};
-ghost use Rattle.kit.specs.Kit.{Outcome-of, sendable};
-use base::Refusal;
+ghost use Rattle.kit.specs.Kit.{Outcome-of};
 use limits::Limits;
-use machine::Report;
+use reports::Came;
 use tables::Answer;
-
-pub enum Outcome {
-    // It ran: ending, steps, readings used and output length.
-    Ran(Report),
-    // It was refused: why, and the place.
-    Refused(Refusal, usize),
-}
 
 // Compiles a text and runs its own code, which is the counted pairs of the table and no more.
 pub fn run_text(
@@ -24,27 +16,17 @@ pub fn run_text(
     table: &mut [i32],
     stack: &mut [i32],
     out: &mut [u8],
-) -> Outcome
+) -> Came
     ghost { Sizes }
     requires { λ sizes. do ⌜ record { word = (← ⟦Limits::WORD⟧); string = (← ⟦Limits::STRING⟧); literal = (← ⟦Limits::LITERAL⟧) } ≡ sizes ⌝ }
     ensures { λ sizes r. do ⌜ With-answer (Compiled (record { text = (← ⟦Limits::TEXT⟧ .entry); sizes = sizes; nesting = (← ⟦Limits::NESTING⟧ .entry); declarations = (← ⟦Limits::DECLARATIONS⟧ .entry); instructions = (← ⟦Limits::INSTRUCTIONS⟧ .entry) }) (now (text .entry)) (length (now (table .entry)))) (Outcome-of (now (text .entry)) (now (readings .entry)) budget (now (stack .entry)) (now (out .entry)) (length (now (table .entry))) r (now (table .exit)) (now (stack .exit)) (now (out .exit))) ⌝ }
 {
     let a = compiler::compile(text, table);
     match a {
-        Answer::Refused(why, place) => Outcome::Refused(why, place),
+        Answer::Refused(why, place) => Came::Refused(why, place),
         Answer::Accepted(counts) => {
             let end = counts.instructions * 2;
-            Outcome::Ran(machine::run(text, &table[..end], readings, budget, stack, out))
+            Came::Ran(machine::run(text, &table[..end], readings, budget, stack, out))
         }
     }
-}
-
-// What may be sent on to the feed: the output of a run with ending 0, and of no other.
-pub fn to_send(ending: u8, length: usize, out: &[u8]) -> &[u8]
-    ensures { λ r. ⌜ now r ≡ sendable ending length (now (out .entry)) ⌝ }
-{
-    if ending != 0 || out.len() < length {
-        return &out[0..0];
-    }
-    &out[..length]
 }

@@ -7,8 +7,8 @@ use limits::Station;
 
 fn run(text: &[u8], readings: &[i32]) {
     let mut room = [0u8; Station::ROOM];
-    let mut page = [0u8; programs::PAGE];
-    let s = tells::station(text, readings, &mut room, &mut page);
+    let mut page = [0u8; tells::PAGE];
+    let s = programs::station(text, readings, &mut room, &mut page);
     let n = s.out;
     io::write_all(STDOUT_FILENO, &page[..n]);
 }

@@ -8,7 +8,7 @@ fn main() {
     let Loaded::Bytes(size) = loaded else {
         return;
     };
-    let mut page = [0u8; programs::LISTING];
+    let mut page = [0u8; tells::LISTING];
     let s = programs::listing(&text[..size], &mut page);
     let n = s.out;
     desk::deliver(&page[..n], b"", s.status);

@@ -1,5 +1,5 @@
 pub mod Beginnings
 pub mod Lessons
 pub mod Listings
-pub mod Pages
+pub mod Tellings
 pub mod Unique

@@ -1,4 +1,4 @@
--- The contracts of `lesson` and `listing` leave one result, and one content of the room and of the page. Assumes nothing.
+-- The contracts of `lesson`, `listing`, `station` and `feed` leave one result, and one content of the room and of each page. Assumes nothing.
 use mathlib.Core.Path.{_≡_, refl, sym, ap, _∙_}
 use mathlib.Core.List.{List}
 use Prim.Native.Nat.{ℕ}
@@ -9,17 +9,14 @@ use Rattle.machine.proofs.Runs.{one-reported}
 use Rattle.compiler.specs.Compiled.{Accepted, With-answer}
 use Rattle.compiler.proofs.Judging.{one-compiled}
 use Rattle.compiler.proofs.Unique.{both}
-use Rattle.programs.specs.Programs as P
+use Rattle.reports.specs.declared.Came.{Came}
+use Rattle.reports.specs.declared.Came.the-variants as came
+use Rattle.tells.specs.Tells as T
+use Rattle.tells.specs.Writes.{Writes}
+use Rattle.tells.specs.declared.Said.{Said}
+use Rattle.tells.proofs.Unique.{one-written}
 use Rattle.programs.specs.Programs.{Tabled}
-use Rattle.programs.specs.Writes.{Writes, Comes, refused-so, ran}
-use Rattle.programs.specs.declared.Said.{Said}
-use Rattle.programs.specs.declared.Came.{Came}
-use Rattle.programs.specs.declared.Came.the-variants as came
-
-pub one-written : {s : P.Said} {r r′ : Said} {out out′ out″ err err′ err″ : List ℕ} → Writes s r out out′ err err′ → Writes s r′ out out″ err err″ → (r ≡ r′) × (out′ ≡ out″) × (err′ ≡ err″)
-one-written {r = r} {r′ = r′} p q =
-    let same : record { out = r .out; err = r .err; status = r .status } ≡ r′ = rw (p .written ∙ sym (q .written), p .noted ∙ sym (q .noted), p .status ∙ sym (q .status)) in
-    (same, p .page ∙ sym (q .page), p .note ∙ sym (q .note))
+use Rattle.programs.specs.Comes.{Comes, refused-so, ran, Tells}
 
 one-came : {room : List ℕ} {a : Answer Report} {c c′ : Came} {room′ room″ : List ℕ} → Comes room a c room′ → Comes room a c′ room″ → (c ≡ c′) × (room′ ≡ room″)
 one-came (refused-so why p) (refused-so _ _) = (refl, refl)
@@ -29,5 +26,12 @@ module _ (limits : Limits) (text : List ℕ) where
   pub lesson-unique : (room : List ℕ) (come : Answer Accepted → Answer Report) {c c′ : Came} {room′ room″ : List ℕ} → With-answer (Tabled limits text) (λ a. Comes room (come a) c room′) → With-answer (Tabled limits text) (λ a. Comes room (come a) c′ room″) → (c ≡ c′) × (room′ ≡ room″)
   lesson-unique room come p q = let b = both (λ a c. one-compiled limits text _) p q in one-came (b .1) (b .2)
 
-  pub listing-unique : (say : Answer Accepted → P.Said) {r r′ : Said} (out : List ℕ) {out′ out″ : List ℕ} (err : List ℕ) {err′ err″ : List ℕ} → With-answer (Tabled limits text) (λ a. Writes (say a) r out out′ err err′) → With-answer (Tabled limits text) (λ a. Writes (say a) r′ out out″ err err″) → (r ≡ r′) × (out′ ≡ out″) × (err′ ≡ err″)
+  pub listing-unique : (say : Answer Accepted → T.Said) {r r′ : Said} (out : List ℕ) {out′ out″ : List ℕ} (err : List ℕ) {err′ err″ : List ℕ} → With-answer (Tabled limits text) (λ a. Writes (say a) r out out′ err err′) → With-answer (Tabled limits text) (λ a. Writes (say a) r′ out out″ err err″) → (r ≡ r′) × (out′ ≡ out″) × (err′ ≡ err″)
   listing-unique say out err p q = let b = both (λ a c. one-compiled limits text _) p q in one-written (b .1) (b .2)
+
+  pub telling-unique : (say : Answer Report → T.Said) (come : Answer Accepted → Answer Report) (room : List ℕ) {r r′ : Said} {room′ room″ : List ℕ} (out : List ℕ) {out′ out″ : List ℕ} (err : List ℕ) {err′ err″ : List ℕ} →
+      With-answer (Tabled limits text) (λ a. Tells say (come a) room r room′ out out′ err err′) → With-answer (Tabled limits text) (λ a. Tells say (come a) room r′ room″ out out″ err err″) → (r ≡ r′) × (room′ ≡ room″) × (out′ ≡ out″) × (err′ ≡ err″)
+  telling-unique say come room out err p q =
+      let b = both (λ a c. one-compiled limits text _) p q in
+      let e = one-written (b .1 .says) (b .2 .says) in
+      (e .0, b .1 .after ∙ sym (b .2 .after), e .1, e .2)

@@ -1,2 +1,2 @@
+pub mod Comes
 pub mod Programs
-pub mod Writes

@@ -1,35 +1,35 @@
 // A text and its readings through the programs, with rooms and pages that held other bytes.
 use crate::say;
 use limits::Station;
-use programs::Came;
-use programs::Said;
+use reports::Came;
+use tells::Said;
 
-fn listed(s: Said, page: &[u8; programs::LISTING]) {
+fn listed(s: Said, page: &[u8; tells::LISTING]) {
     say::said(b"listing", s, page, b"");
 }
 
 fn listing(text: &[u8]) {
-    let mut page = [b'#'; programs::LISTING];
+    let mut page = [b'#'; tells::LISTING];
     let s = programs::listing(text, &mut page);
     listed(s, &page);
 }
 
-fn said(name: &[u8], s: Said, page: &[u8; programs::PAGE], note: &[u8; programs::LINE]) {
+fn said(name: &[u8], s: Said, page: &[u8; tells::PAGE], note: &[u8; tells::LINE]) {
     say::said(name, s, page, note);
 }
 
 pub fn station(text: &[u8], numbers: &[i32]) {
     let mut room = [7u8; Station::ROOM];
-    let mut page = [b'#'; programs::PAGE];
-    let s = tells::station(text, numbers, &mut room, &mut page);
-    said(b"station", s, &page, &[b'#'; programs::LINE]);
+    let mut page = [b'#'; tells::PAGE];
+    let s = programs::station(text, numbers, &mut room, &mut page);
+    said(b"station", s, &page, &[b'#'; tells::LINE]);
 }
 
 fn feed(text: &[u8], numbers: &[i32]) {
     let mut room = [7u8; Station::ROOM];
-    let mut page = [b'#'; programs::PAGE];
-    let mut note = [b'#'; programs::LINE];
-    let s = tells::feed(text, numbers, &mut room, &mut page, &mut note);
+    let mut page = [b'#'; tells::PAGE];
+    let mut note = [b'#'; tells::LINE];
+    let s = programs::feed(text, numbers, &mut room, &mut page, &mut note);
     said(b"feed", s, &page, &note);
 }
 

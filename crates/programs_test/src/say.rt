@@ -3,7 +3,7 @@ ghost use Prim.Native.Nat.{_≤_};
 ghost use lib.ListN.{length};
 use crate::texts;
 use libc::STDOUT_FILENO;
-use programs::Said;
+use tells::Said;
 
 fn write(bytes: &[u8]) {
     io::write_all(STDOUT_FILENO, bytes);

@@ -8,11 +8,11 @@ use Rattle.machine.specs.declared.Report as Code
 use Rattle.lines.specs.Added.{Added}
 use Rattle.marks.specs.Shown.{Widths}
 use Rattle.words.specs.declared.Numbers.{Numbers}
-use Rattle.programs.specs.Programs.{status-of}
-use Rattle.programs.specs.Writes.{Writes, with-output}
-use Rattle.programs.specs.declared.Came.{Came}
-use Rattle.programs.specs.declared.Came.the-variants as came
-use Rattle.programs.proofs.Pages.{said-bytes, said-page, untouched}
+use Rattle.tells.specs.Tells.{status-of}
+use Rattle.tells.specs.Writes.{Writes, with-output}
+use Rattle.reports.specs.declared.Came.{Came}
+use Rattle.reports.specs.declared.Came.the-variants as came
+use Rattle.tells.proofs.Pages.{said-bytes, said-page, untouched}
 use Rattle.pupil.specs.Shows.{shown-refusal, shown-run, shown}
 
 module _ (w : Widths) (n : Numbers) (text room : List ℕ) {page page′ : List ℕ} {end : ℕ} {c : Came} where

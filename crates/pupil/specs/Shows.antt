@@ -14,7 +14,7 @@ use Rattle.place.specs.Places.{spot}
 use Rattle.marks.specs.Shown.{Widths, marked-line}
 use Rattle.words.specs.Words.{why, how}
 use Rattle.words.specs.declared.Numbers.{Numbers}
-use Rattle.programs.specs.Programs.{Said, not-good, status-of}
+use Rattle.tells.specs.Tells.{Said, not-good, status-of}
 
 -- a text too long and too much code are of the whole text, and their place 0 says nothing
 unfoldable pub has-place : Refusal → Bool

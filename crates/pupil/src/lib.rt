@@ -6,14 +6,14 @@ ghost use Prim.Native.Nat.{_+_, _≤_};
 ghost use lib.ListN.{length};
 ghost use Rattle.base.specs.Bytes.{bytes};
 ghost use Rattle.lines.specs.Added.{Added};
-ghost use Rattle.programs.specs.Writes.{Writes, with-output};
+ghost use Rattle.tells.specs.Writes.{Writes, with-output};
 ghost use Rattle.pupil.specs.Shows.{has-place, at-place, shown-refusal, shown-output, steps-taken, shown-run, shown};
 use base::Refusal;
 use limits::Station;
 use machine::Report;
 use marks::Window;
-use programs::Came;
-use programs::Said;
+use reports::Came;
+use tells::Said;
 use words::Numbers;
 
 // Room for what is said of a run, or of a refusal.
@@ -102,12 +102,12 @@ pub fn show(
         Came::Refused(why, place) => Said {
             out: put_refusal(page, n, text, why, place),
             err: 0,
-            status: programs::NOT_GOOD,
+            status: tells::NOT_GOOD,
         },
         Came::Ran(r) => Said {
-            out: put_run(page, n, r, programs::output(r.length, room)),
+            out: put_run(page, n, r, tells::output(r.length, room)),
             err: 0,
-            status: programs::status_of(r.ending),
+            status: tells::status_of(r.ending),
         },
     }
 }

@@ -4,7 +4,7 @@ use libc::STDIN_FILENO;
 use libc::STDOUT_FILENO;
 use limits::Limits;
 use limits::Station;
-use programs::Said;
+use tells::Said;
 
 fn said(s: Said, page: &[u8; pupil::SHOWN]) {
     io::write_all(STDOUT_FILENO, base::part(page, 0, s.out));

@@ -11,8 +11,8 @@ fn main() {
         return;
     };
     let mut room = [0u8; Station::ROOM];
-    let mut page = [0u8; programs::PAGE];
-    let s = tells::station(&text[..size], &numbers[..count], &mut room, &mut page);
+    let mut page = [0u8; tells::PAGE];
+    let s = programs::station(&text[..size], &numbers[..count], &mut room, &mut page);
     let n = s.out;
     desk::deliver(&page[..n], b"", s.status);
 }

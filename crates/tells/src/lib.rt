@@ -1,25 +1,87 @@
-// What the paper's second program and the program for the feed say of what came of a text.
+// What is told of an answer and of what came of a text, into pages that are lent.
 ghost use mathlib.Core.Path.{_≡_};
 ghost use mathlib.Core.List.{[]};
-ghost use lib.ListN.{length};
-ghost use Rattle.compiler.specs.Compiled.{With-answer};
-ghost use Rattle.programs.specs.Programs.{Tabled, came};
-ghost use Rattle.programs.specs.Writes.{Given, Writes, with-output};
-ghost use Rattle.tells.specs.Tells.{said-of-run, sent, Tells};
+ghost use Prim.Native.Nat.{_*_};
+ghost use lib.ListN.{take};
+ghost use Rattle.tells.specs.Tells.{status-of, said-of-answer, said-of-run, sent};
+ghost use Rattle.tells.specs.Writes.{Writes, with-output};
 use limits::Limits;
 use limits::Station;
-use programs::Came;
-use programs::GOOD;
-use programs::LINE;
-use programs::NOT_GOOD;
-use programs::PAGE;
-use programs::Said;
-use programs::lesson;
-use programs::output;
-use programs::status_of;
+use reports::Came;
+use reports::to_send;
+use tables::Answer;
+
+// How many bytes stand on the page for standard output and on the one for standard error, and the status.
+pub struct Said {
+    pub out: usize,
+    pub err: usize,
+    pub status: u8,
+}
+
+pub const GOOD: u8 = 0;
+
+pub const NOT_GOOD: u8 = 1;
+
+// Room for the longest line that is not an instruction's, for a whole listing, and for what is said of a run.
+pub const LINE: usize = 96;
+
+pub const LISTING: usize = Limits::INSTRUCTIONS * 65 + LINE;
+
+pub const PAGE: usize = Station::ROOM + LINE;
+
+// A code is the counted pairs of its table.
+fn code(instructions: usize, table: &[i32]) -> &[i32]
+    ensures { λ r. ⌜ now r ≡ take (instructions * 2) (now (table .entry)) ⌝ }
+{
+    if table.len() / 2 < instructions {
+        return table;
+    }
+    &table[..instructions * 2]
+}
+
+// The listing, or the line of the refusal.
+pub fn list(a: Answer, table: &[i32; Limits::INSTRUCTIONS * 2], page: &mut [u8; LISTING]) -> Said
+    ensures { λ r. ⌜ Writes (said-of-answer a (now (table .entry))) r (now (page .entry)) (now (page .exit)) [] [] ⌝ }
+{
+    match a {
+        Answer::Refused(why, place) => Said {
+            out: lines::refused(page, 0, why, place),
+            err: 0,
+            status: NOT_GOOD,
+        },
+        Answer::Accepted(c) => {
+            let at = lines::accepted(page, 0, c.instructions, c.cells, c.need);
+            Said {
+                out: lines::instructions(page, at, code(c.instructions, table)),
+                err: 0,
+                status: GOOD,
+            }
+        }
+    }
+}
+
+// Good exactly with ending 0.
+pub fn status_of(ending: u8) -> u8
+    ensures { λ r. ⌜ r ≡ status-of ending ⌝ }
+{
+    if ending == 0 {
+        return GOOD;
+    }
+    NOT_GOOD
+}
+
+// The output of a run stands at the beginning of its room.
+pub fn output(length: usize, room: &[u8]) -> &[u8]
+    ensures { λ r. ⌜ now r ≡ take length (now (room .entry)) ⌝ }
+{
+    if room.len() <= length {
+        return room;
+    }
+    &room[..length]
+}
 
 // The output of a run, a line end, and how it ended; or the line of the refusal.
-fn tell(c: Came, room: &[u8; Station::ROOM], page: &mut [u8; PAGE]) -> Said
+pub fn tell(c: Came, room: &[u8; Station::ROOM], page: &mut [u8; PAGE]) -> Said
     ensures { λ r. ⌜ Writes (said-of-run (with-output c (now (room .entry)))) r (now (page .entry)) (now (page .exit)) [] [] ⌝ }
 {
     match c {
@@ -40,23 +102,13 @@ fn tell(c: Came, room: &[u8; Station::ROOM], page: &mut [u8; PAGE]) -> Said
     }
 }
 
-// The second program of the paper.
-pub fn station(
-    text: &[u8],
-    readings: &[i32],
-    room: &mut [u8; Station::ROOM],
-    page: &mut [u8; PAGE],
-) -> Said
-    ghost { Given }
-    requires { λ g. do ⌜ record { sizes = record { word = (← ⟦Limits::WORD⟧); string = (← ⟦Limits::STRING⟧); literal = (← ⟦Limits::LITERAL⟧) }; budget = (← ⟦Station::BUDGET⟧) } ≡ g ⌝ }
-    ensures { λ g r. do ⌜ With-answer (Tabled (record { text = (← ⟦Limits::TEXT⟧ .entry); sizes = g .sizes; nesting = (← ⟦Limits::NESTING⟧ .entry); declarations = (← ⟦Limits::DECLARATIONS⟧ .entry); instructions = (← ⟦Limits::INSTRUCTIONS⟧ .entry) }) (now (text .entry))) (λ a. Tells said-of-run (came (g .budget) (length (now (room .entry))) (now (readings .entry)) a) (now (room .entry)) r (now (room .exit)) (now (page .entry)) (now (page .exit)) [] []) ⌝ }
-{
-    let c = lesson(text, readings, room);
-    tell(c, room, page)
-}
-
 // What may be sent on to the feed, and on a page of its own why nothing may.
-fn send(c: Came, room: &[u8; Station::ROOM], page: &mut [u8; PAGE], note: &mut [u8; LINE]) -> Said
+pub fn send(
+    c: Came,
+    room: &[u8; Station::ROOM],
+    page: &mut [u8; PAGE],
+    note: &mut [u8; LINE],
+) -> Said
     ensures { λ r. ⌜ Writes (sent (with-output c (now (room .entry)))) r (now (page .entry)) (now (page .exit)) (now (note .entry)) (now (note .exit)) ⌝ }
 {
     match c {
@@ -67,7 +119,7 @@ fn send(c: Came, room: &[u8; Station::ROOM], page: &mut [u8; PAGE], note: &mut [
         },
         Came::Ran(r) => {
             let all = output(r.length, room);
-            let out = lines::put(page, 0, kit::to_send(r.ending, all.len(), all));
+            let out = lines::put(page, 0, to_send(r.ending, all.len(), all));
             if r.ending == 0 {
                 return Said {
                     out,
@@ -82,20 +134,4 @@ fn send(c: Came, room: &[u8; Station::ROOM], page: &mut [u8; PAGE], note: &mut [
             }
         }
     }
-}
-
-// The program for the feed.
-pub fn feed(
-    text: &[u8],
-    readings: &[i32],
-    room: &mut [u8; Station::ROOM],
-    page: &mut [u8; PAGE],
-    note: &mut [u8; LINE],
-) -> Said
-    ghost { Given }
-    requires { λ g. do ⌜ record { sizes = record { word = (← ⟦Limits::WORD⟧); string = (← ⟦Limits::STRING⟧); literal = (← ⟦Limits::LITERAL⟧) }; budget = (← ⟦Station::BUDGET⟧) } ≡ g ⌝ }
-    ensures { λ g r. do ⌜ With-answer (Tabled (record { text = (← ⟦Limits::TEXT⟧ .entry); sizes = g .sizes; nesting = (← ⟦Limits::NESTING⟧ .entry); declarations = (← ⟦Limits::DECLARATIONS⟧ .entry); instructions = (← ⟦Limits::INSTRUCTIONS⟧ .entry) }) (now (text .entry))) (λ a. Tells sent (came (g .budget) (length (now (room .entry))) (now (readings .entry)) a) (now (room .entry)) r (now (room .exit)) (now (page .entry)) (now (page .exit)) (now (note .entry)) (now (note .exit))) ⌝ }
-{
-    let c = lesson(text, readings, room);
-    send(c, room, page, note)
 }

@@ -2,7 +2,7 @@
 use mathlib.Core.Path.{sym}
 use lib.Seq.{length-take-le}
 use Rattle.input.proofs.Lent.{fit}
-use Rattle.programs.proofs.Pages.{on-page, on-note}
+use Rattle.tells.proofs.Pages.{on-page, on-note}
 use borrow.Author.Needs.{needs}
 use Rattle.feed.proofs.main.Statement.{statement}
 use Rattle.feed.proofs.main.Tie as tie

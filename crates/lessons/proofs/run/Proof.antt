@@ -1,7 +1,7 @@
 -- What is read, said and written is what stands in the buffers. Assumes nothing.
 use mathlib.Core.Path.{sym}
 use lib.Seq.{length-take-le}
-use Rattle.programs.proofs.Pages.{on-page}
+use Rattle.tells.proofs.Pages.{on-page}
 use borrow.Author.Needs.{needs}
 use Rattle.lessons.proofs.run.Statement.{statement}
 use Rattle.lessons.proofs.run.Tie as tie

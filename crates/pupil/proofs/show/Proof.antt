@@ -3,7 +3,7 @@ use Prim.Native.Nat.{_+_, _≤_}
 use native.Mathlib.Omega.{arith}
 use denote.Ref.{now}
 use lib.ListN.{length}
-use Rattle.programs.proofs.Pages.{output-short}
+use Rattle.tells.proofs.Pages.{output-short}
 use Rattle.pupil.proofs.Shows.{shown-refused, shown-ran}
 use borrow.Author.Needs.{needs}
 use Rattle.pupil.proofs.show.Statement.{statement}

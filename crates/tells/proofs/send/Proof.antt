@@ -4,8 +4,8 @@ use native.Mathlib.Omega.{arith}
 use denote.Ref.{now}
 use lib.ListN.{length}
 use Rattle.lines.proofs.Short.{Small, short-refused, short-ending}
-use Rattle.programs.proofs.Pages.{output-short}
-use Rattle.tells.proofs.Pages.{sent-refused, sent-ran, sent-not}
+use Rattle.tells.proofs.Pages.{output-short}
+use Rattle.tells.proofs.Told.{sent-refused, sent-ran, sent-not}
 use borrow.Author.Needs.{needs}
 use Rattle.tells.proofs.send.Statement.{statement}
 use Rattle.tells.proofs.send.Tie as tie

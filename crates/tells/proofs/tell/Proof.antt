@@ -1,7 +1,7 @@
 -- `tells::tell` meets its contract. Assumes nothing.
 use Rattle.lines.proofs.Adds.{adds-then}
 use Rattle.lines.proofs.Short.{Small, short-refused}
-use Rattle.tells.proofs.Pages.{told-refused, told-ran, told-short}
+use Rattle.tells.proofs.Told.{told-refused, told-ran, told-short}
 use native.Mathlib.Omega.{arith}
 use denote.Ref.{now}
 use Prim.Native.Nat.{_+_, _≤_}

@@ -1,8 +1,8 @@
--- `programs::status_of` meets its contract. Assumes nothing.
+-- `tells::status_of` meets its contract. Assumes nothing.
 use borrow.Author.Tests.{eq-eqb, ne-eqb}
-use Rattle.programs.specs.Programs.{status-of}
-use Rattle.programs.proofs.status_of.Statement.{statement}
-use Rattle.programs.proofs.status_of.Tie as tie
+use Rattle.tells.specs.Tells.{status-of}
+use Rattle.tells.proofs.status_of.Statement.{statement}
+use Rattle.tells.proofs.status_of.Tie as tie
 
 returns : tie.Need-returns
 unfolding status-of

@@ -1,10 +1,10 @@
--- `tells::station` meets its contract. Assumes nothing.
+-- `programs::station` meets its contract. Assumes nothing.
 use Rattle.tells.specs.Tells.{said-of-run}
 use Rattle.compiler.proofs.Judging.{with-answer}
-use Rattle.tells.proofs.Pages.{tells}
+use Rattle.programs.proofs.Tellings.{tells}
 use borrow.Author.Needs.{needs}
-use Rattle.tells.proofs.station.Statement.{statement}
-use Rattle.tells.proofs.station.Tie as tie
+use Rattle.programs.proofs.station.Statement.{statement}
+use Rattle.programs.proofs.station.Tie as tie
 
 returns : tie.Need-returns
 returns c = with-answer (c .before .before .before .lesson .ensures) (λ a g x. tells said-of-run x (c .tell .ensures))

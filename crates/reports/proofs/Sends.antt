@@ -6,7 +6,7 @@ use Prim.Native.Nat.{ℕ, _≤_, _<_}
 use borrow.Author.Tests.{eq-eqb, ne-eqb, le-leb, lt-leb}
 use lib.ListN.{length, take}
 use Rattle.instruction.specs.Endings.{normal}
-use Rattle.kit.specs.Kit.{sendable}
+use Rattle.reports.specs.Reports.{sendable}
 
 module _ (ending size : ℕ) (out : List ℕ) where
   pub not-normal : (ending ≡ normal → ⊥) → [] ≡ sendable ending size out

@@ -1,12 +1,12 @@
--- `kit::to_send` meets its contract. Assumes nothing.
+-- `reports::to_send` meets its contract. Assumes nothing.
 use mathlib.Core.Path.{sym}
 use mathlib.Core.Logic.{⊎-elim}
 use borrow.Author.Needs.{needs}
 use borrow.Author.Tests.{ltb-true, ltb-false}
 use lib.Seq.{length-take-le}
-use Rattle.kit.proofs.Sends.{not-normal, too-long, sent}
-use Rattle.kit.proofs.to_send.Statement.{statement}
-use Rattle.kit.proofs.to_send.Tie as tie
+use Rattle.reports.proofs.Sends.{not-normal, too-long, sent}
+use Rattle.reports.proofs.to_send.Statement.{statement}
+use Rattle.reports.proofs.to_send.Tie as tie
 
 returns : tie.Need-returns
 returns c = ⊎-elim (λ t. not-normal _ _ _ (t .taken)) (λ t. too-long _ _ _ (ltb-true _ _ (t .1 .taken))) (c .before .if1 .came)

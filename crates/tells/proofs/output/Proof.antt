@@ -1,10 +1,10 @@
--- `programs::output` meets its contract. Assumes nothing.
+-- `tells::output` meets its contract. Assumes nothing.
 use mathlib.Core.Path.{sym}
 use native.Mathlib.Omega.{arith}
 use lib.Seq.{take-all, length-take-le}
 use borrow.Author.Needs.{needs}
-use Rattle.programs.proofs.output.Statement.{statement}
-use Rattle.programs.proofs.output.Tie as tie
+use Rattle.tells.proofs.output.Statement.{statement}
+use Rattle.tells.proofs.output.Tie as tie
 
 returns : tie.Need-returns
 returns c = sym (take-all _ _ (c .if1 .taken))

@@ -1,10 +1,10 @@
--- `tells::feed` meets its contract. Assumes nothing.
+-- `programs::feed` meets its contract. Assumes nothing.
 use Rattle.tells.specs.Tells.{sent}
 use Rattle.compiler.proofs.Judging.{with-answer}
-use Rattle.tells.proofs.Pages.{tells}
+use Rattle.programs.proofs.Tellings.{tells}
 use borrow.Author.Needs.{needs}
-use Rattle.tells.proofs.feed.Statement.{statement}
-use Rattle.tells.proofs.feed.Tie as tie
+use Rattle.programs.proofs.feed.Statement.{statement}
+use Rattle.programs.proofs.feed.Tie as tie
 
 returns : tie.Need-returns
 returns c = with-answer (c .before .before .before .before .lesson .ensures) (λ a g x. tells sent x (c .send .ensures))
