@@ -9,13 +9,13 @@ ghost use Rattle.machine.specs.Machine.{Lent, Machine, stop, tried, prin
 ghost use Rattle.instruction.specs.Endings.{bad-code};
 ghost use Rattle.instruction.specs.Instructions.{print-int};
 ghost use Rattle.machine.specs.inner.Coded.{Prints, Stepped};
-use rooms::Printed;
 use base::Such;
 use instruction::decimal::put_decimal;
 use instruction::endings;
 use moves::Move;
 use moves::State;
 use moves::moved;
+use rooms::Printed;
 
 // Bytes, with a line feed after them if it is asked for.
 fn write(s: State, bytes: &[u8], line: bool, out: &mut [u8]) -> Move
