@@ -1,28 +1,16 @@
--- Laws of marks and of what stands between them. Assumes nothing.
-use mathlib.Core.Path.{_≡_, refl, sym, ap, _∙_}
-use mathlib.Core.Logic.{_≢_}
+-- Laws of counting, of what bytes stand for and of numbers. Assumes nothing.
+use mathlib.Core.Path.{_≡_}
 use mathlib.Core.Bool.{Bool, true, false, cond}
 use mathlib.Core.List.{List, [], _∷_, _++_, map, append-assoc, append-nil}
-use Prim.Native.Nat.{ℕ, zero, suc, _+_, _-_, _*_, _≤_, _<_}
+use Prim.Native.Nat.{ℕ, suc, _+_, _-_, _*_, _≤_, _<_}
 use native.Mathlib.Numerals.{add-one}
 use native.Mathlib.Omega.{arith}
-use borrow.Author.Tests.{eq-eqb, ne-eqb, lt-ltb, le-ltb}
+use borrow.Author.Tests.{lt-ltb, le-ltb}
 use lib.Dec.{eqb}
-use lib.ListN.{length, getD, set, take, drop, length-drop, drop-of-length-le}
-use lib.Seq.{drop-cons, drop-drop, drop-set-lt, take-suc-set, take-all}
+use lib.ListN.{length, getD, set, take, drop, drop-of-length-le}
+use lib.Seq.{drop-cons, drop-set-lt, take-suc-set, take-all}
 use mir.Val.{boolByte}
-use Rattle.base.specs.Bytes.{run}
-use Rattle.base.specs.inner.Parts.{part}
-use Rattle.base.proofs.Runs.{run-fits, run-part}
-use Rattle.cases.specs.Cases.{no-mark, marks, nth, meant, worth}
-
-pub is-mark : (mark b : ℕ) → b ≡ mark → no-mark mark b ≡ false
-unfolding no-mark
-is-mark mark b e = rw (eq-eqb b mark e)
-
-pub is-no-mark : (mark b : ℕ) → b ≢ mark → no-mark mark b ≡ true
-unfolding no-mark
-is-no-mark mark b e = rw (ne-eqb b mark e)
+use Rattle.cases.specs.Cases.{marks, meant, worth}
 
 -- ---- counting
 
@@ -44,36 +32,6 @@ marks-start mark s = omega arith
 pub marks-out : (mark : ℕ) (s : List ℕ) (n i : ℕ) → length s ≤ i → n ≡ n + marks mark (drop i s)
 unfolding marks
 marks-out mark s n i p = rw (drop-of-length-le s p) (omega arith)
-
--- ---- the case after so many others
-
-module _ (mark : ℕ) where
-  nothing : (n : ℕ) → nth mark n [] ≡ []
-  unfolding nth run
-  nothing zero = refl
-  nothing (suc n) = nothing n
-
-  module _ (s : List ℕ) (at : ℕ) where
-    pub end-within : at < length s → at + length (run (no-mark mark) (drop at s)) ≤ length s
-    end-within p = omega (arith, run-fits (no-mark mark) (drop at s), length-drop at s)
-
-    pub nth-start : (n : ℕ) → nth mark (n - 0) (drop 0 s) ≡ nth mark n s
-    nth-start n = let e : n - 0 ≡ n = omega arith in rw e
-
-    pub nth-on : (n i end : ℕ) → i < n → end ≡ at + length (run (no-mark mark) (drop at s)) → nth mark (n - (i + 1)) (drop (end + 1) s) ≡ nth mark (n - i) (drop at s)
-    unfolding nth
-    nth-on n i end p e =
-        let f : n - i ≡ suc (n - (i + 1)) = omega arith in
-        let g : end + 1 ≡ at + suc (length (run (no-mark mark) (drop at s))) = omega arith in
-        rw (f, g, ← drop-drop (suc (length (run (no-mark mark) (drop at s)))) at s)
-
-    pub nth-none : (n : ℕ) → length s ≤ at → part s 0 0 ≡ nth mark n (drop at s)
-    unfolding part
-    nth-none n p = rw (drop-of-length-le s p) (sym (nothing n))
-
-    pub nth-here : (n i end : ℕ) → n ≤ i → end ≡ at + length (run (no-mark mark) (drop at s)) → part s at end ≡ nth mark (n - i) (drop at s)
-    unfolding nth part
-    nth-here n i end p e = let f : n - i ≡ 0 = omega arith in rw f (run-part (no-mark mark) s at end e)
 
 -- ---- what the bytes of a file stand for
 

@@ -1,22 +1,12 @@
 -- Cases one after the other, each ended by a mark.
 use mathlib.Core.List.{List, [], _∷_}
-use mathlib.Core.Bool.{Bool, not, cond}
-use Prim.Native.Nat.{ℕ, zero, suc, _+_, _-_, _*_}
+use mathlib.Core.Bool.{cond}
+use Prim.Native.Nat.{ℕ, suc, _+_, _-_, _*_}
 use lib.Dec.{eqb, ltb}
-use lib.ListN.{length, drop}
-use Rattle.base.specs.Bytes.{run}
-
-unfoldable pub no-mark : ℕ → ℕ → Bool
-no-mark mark b = not (eqb b mark)
 
 unfoldable pub marks : ℕ → List ℕ → ℕ
 marks mark [] = 0
 marks mark (b ∷ s) = cond (eqb b mark) (suc (marks mark s)) (marks mark s)
-
--- the case after so many others
-unfoldable pub nth : ℕ → ℕ → List ℕ → List ℕ
-nth mark zero s = run (no-mark mark) s
-nth mark (suc n) s = nth mark n (drop (suc (length (run (no-mark mark) s))) s)
 
 -- what a byte of a file stands for: the line end for the end of a case (30), `$` for the line end, `&` for the tab, `%` for the carriage return, `@` for 0
 unfoldable pub meant : ℕ → ℕ

@@ -1,11 +1,9 @@
-// For the test programs: cases one after the other, each ended by a mark, and the fields of a case likewise.
+// For the test programs: cases one after the other, each ended by a mark, and the fields of a case likewise (crates/rows picks one).
 // In a file a case is a line, and some bytes stand for others that would not show.
 ghost use mathlib.Core.Path.{_≡_};
 ghost use mathlib.Core.List.{map};
-ghost use Prim.Native.Nat.{_+_, _-_, _≤_};
-ghost use lib.ListN.{length, drop};
-ghost use Rattle.base.specs.Bytes.{run};
-ghost use Rattle.cases.specs.Cases.{no-mark, marks, nth, meant, worth};
+ghost use Prim.Native.Nat.{_-_, _≤_};
+ghost use Rattle.cases.specs.Cases.{marks, meant, worth};
 
 // How many there are.
 pub fn count(cases: &[u8], mark: u8) -> usize
@@ -18,37 +16,6 @@ pub fn count(cases: &[u8], mark: u8) -> usize
         i += 1;
     }
     n
-}
-
-// The place of the next mark, or the end.
-fn end(cases: &[u8], mark: u8, at: usize) -> usize
-    ensures { λ r. ⌜ r ≡ at + length (run (no-mark mark) (drop at (now (cases .entry)))) ⌝ }
-{
-    let mut i = at;
-    while i < cases.len() {
-        if cases[i] == mark {
-            return i;
-        }
-        i += 1;
-    }
-    i
-}
-
-// The case after so many others; nothing where there are not so many.
-pub fn nth(cases: &[u8], mark: u8, n: usize) -> &[u8]
-    ensures { λ r. ⌜ now r ≡ nth mark n (now (cases .entry)) ⌝ }
-{
-    let mut at = 0;
-    let mut i = 0;
-    while i < n {
-        if cases.len() <= at {
-            return base::part(cases, 0, 0);
-        }
-        at = end(cases, mark, at) + 1;
-        i += 1;
-    }
-    let to = end(cases, mark, at);
-    base::part(cases, at, to)
 }
 
 // The end of a case.

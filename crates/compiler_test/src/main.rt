@@ -10,19 +10,19 @@ mod say;
 
 fn at_a_limit(c: &[u8]) {
     edges::nested(
-        cases::nth(c, b'|', 0),
-        cases::nth(c, b'|', 1),
-        cases::worth(cases::nth(c, b'|', 2)),
-        cases::nth(c, b'|', 3),
-        cases::nth(c, b'|', 4),
+        rows::nth(c, b'|', 0),
+        rows::nth(c, b'|', 1),
+        cases::worth(rows::nth(c, b'|', 2)),
+        rows::nth(c, b'|', 3),
+        rows::nth(c, b'|', 4),
     );
 }
 
 fn case(c: &[u8]) {
-    let first = cases::nth(c, b'|', 0);
+    let first = rows::nth(c, b'|', 0);
     match cases::count(c, b'|') {
         0 => listings::list(c),
-        1 => edges::short(first, cases::worth(cases::nth(c, b'|', 1))),
+        1 => edges::short(first, cases::worth(rows::nth(c, b'|', 1))),
         2 => say::line(first),
         _ => at_a_limit(c),
     }
@@ -32,7 +32,7 @@ fn each(all: &[u8]) {
     let n = cases::count(all, cases::END);
     let mut i = 0;
     while i < n {
-        case(cases::nth(all, cases::END, i));
+        case(rows::nth(all, cases::END, i));
         i += 1;
     }
 }

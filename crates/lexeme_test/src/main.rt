@@ -81,14 +81,14 @@ fn case(c: &[u8]) {
     if cases::count(c, b'|') < 1 {
         return see(c);
     }
-    show(cases::nth(c, b'|', 0), cases::nth(c, b'|', 1));
+    show(rows::nth(c, b'|', 0), rows::nth(c, b'|', 1));
 }
 
 fn each(all: &[u8]) {
     let n = cases::count(all, cases::END);
     let mut i = 0;
     while i < n {
-        case(cases::nth(all, cases::END, i));
+        case(rows::nth(all, cases::END, i));
         i += 1;
     }
 }

@@ -2,13 +2,12 @@
 use mathlib.Core.Path.{_≡_, refl, sym, ap, _∙_}
 use mathlib.Core.Bool.{Bool, true, false}
 use mathlib.Core.List.{List, [], _∷_, _++_}
-use Prim.Native.Nat.{ℕ, suc, _+_, _≤_, _<_, min}
-use native.Mathlib.Numerals.{add-one}
+use Prim.Native.Nat.{ℕ, suc, _+_, _≤_, min}
 use native.Mathlib.Omega.{arith}
 use borrow.Author.Tests.{leb-true, leb-false}
 use lib.Dec.{leb}
-use lib.ListN.{length, getD, drop, set, length-append, drop-of-length-le}
-use lib.Seq.{sets, length-sets, set-out, drop-cons}
+use lib.ListN.{length, set, length-append}
+use lib.Seq.{sets, length-sets, set-out}
 use Rattle.lines.specs.Added.{Added}
 
 -- stores past the page's end do nothing
@@ -50,31 +49,20 @@ adds-none page at h = record { bytes = refl; next = omega arith }
 pub adds-within : {bs page page′ : List ℕ} {at end : ℕ} → Added bs page at page′ end → end ≤ length page′
 adds-within {bs} {page} {page′} {at} a = omega (arith, a .next, ap length (a .bytes) ∙ length-sets page at bs)
 
--- ---- byte by byte: from the place at + i on, what is left is still to be stored
-
-pub added-on : (bs page first : List ℕ) (at i : ℕ) → i < length bs → sets page (at + i) (drop i bs) ≡ first → sets (set page (at + i) (getD bs i 0)) (at + (i + 1)) (drop (i + 1) bs) ≡ first
-added-on bs page first at i h e =
-    let f : at + suc i ≡ suc (at + i) = omega arith in
-    rw (add-one i, f) (rw (drop-cons bs i 0 h) at e)
-
--- none are left
-pub added-all : (bs page first : List ℕ) (at i : ℕ) → i ≡ length bs → at + i ≤ length first → length page ≡ length first → sets page (at + i) (drop i bs) ≡ sets first at bs → Added bs first at page (at + i)
-added-all bs page first at i all fits same e = record {
-  bytes = let h : length bs ≤ i = omega arith in rw (drop-of-length-le bs h) at e;
-  next = omega arith;
-}
-
--- the page is full before the first
+-- there is no room
 pub added-past : (bs page : List ℕ) (at : ℕ) → length page ≤ at → Added bs page at page (length page)
 added-past bs page at h = record { bytes = sym (sets-out bs page at h); next = omega arith }
 
--- none is stored yet
-pub added-none : (bs page : List ℕ) (at : ℕ) → sets page (at + 0) (drop 0 bs) ≡ sets page at bs
-added-none bs page at = let e : at + 0 ≡ at = omega arith in rw e
+-- ---- one after the other: with the rest, all is added
 
--- the page is full
-pub added-full : (bs page first : List ℕ) (at i : ℕ) → i ≤ length bs → length first ≤ at + i → length page ≡ length first → sets page (at + i) (drop i bs) ≡ sets first at bs → Added bs first at page (length page)
-added-full bs page first at i some full same e = record {
-  bytes = sym (sets-out (drop i bs) page (at + i) (omega arith)) ∙ e;
-  next = omega arith;
-}
+pub record Leads (all first : List ℕ) (at : ℕ) (rest page : List ℕ) (next : ℕ) : Type 0 where
+  pub adds : (last : List ℕ) (end : ℕ) → Added rest page next last end → Added all first at last end
+
+pub leads-start : (all page : List ℕ) (at next : ℕ) → next ≡ min (length page) at → Leads all page at all page next
+leads-start all page at next e = record { adds = λ last end a. adds-then {s = []} (record { bytes = refl; next = omega arith }) a }
+
+pub leads-on : {all first rest more page page′ : List ℕ} {at next next′ : ℕ} (some : List ℕ) → rest ≡ some ++ more → Added some page next page′ next′ → Leads all first at rest page next → Leads all first at more page′ next′
+leads-on some e a leads = record { adds = λ last end b. leads .adds last end (rw e (adds-then a b)) }
+
+pub leads-out : {all first page : List ℕ} {at next : ℕ} → next ≤ length page → Leads all first at [] page next → Added all first at page next
+leads-out {page = page} {next = next} within leads = leads .adds page next (adds-none page next within)

@@ -1,36 +1,32 @@
 -- The lines that the programs write: document 01, "Bench examples" and "What the kit holds". Each ends with byte 10.
 use mathlib.Core.List.{List, [], _∷_, _++_}
 use Prim.Native.Nat.{ℕ, zero, suc, _+_, _*_, _/_}
-use Prim.Native.String.{String}
 use lib.IntN.{ℤ, pos}
 use lib.ListN.{length, getD}
 use Rattle.base.specs.declared.Refusal.{Refusal}
 use Rattle.base.specs.Answers.{number}
 use Rattle.base.specs.Bytes.{bytes}
 use Rattle.instruction.specs.Numbers.{decimal}
+use Rattle.lines.specs.Forms.{filled}
 
 abbrev pub line-end : List ℕ
 line-end = 10 ∷ []
 
--- a number after its label
-unfoldable pub counted : String → ℕ → List ℕ
-counted label n = bytes label ++ decimal (pos n)
-
 -- `refused N P`
 unfoldable pub refused-line : Refusal → ℕ → List ℕ
-refused-line why place = counted "refused " (number why) ++ counted " " place ++ line-end
+refused-line why place = filled (bytes "refused # #\n") (number why ∷ place ∷ [])
 
 -- `ending E steps S`
 unfoldable pub ending-line : ℕ → ℕ → List ℕ
-ending-line ending steps = counted "ending " ending ++ counted " steps " steps ++ line-end
+ending-line ending steps = filled (bytes "ending # steps #\n") (ending ∷ steps ∷ [])
 
 -- `accepted I C N`
 unfoldable pub accepted-line : ℕ → ℕ → ℕ → List ℕ
-accepted-line instructions cells need = counted "accepted " instructions ++ counted " " cells ++ counted " " need ++ line-end
+accepted-line instructions cells need = filled (bytes "accepted # # #\n") (instructions ∷ cells ∷ need ∷ [])
 
 -- `PLACE OPERATION OPERAND`
 unfoldable pub instruction-line : ℕ → ℤ → ℤ → List ℕ
-instruction-line place operation operand = decimal (pos place) ++ bytes " " ++ decimal operation ++ bytes " " ++ decimal operand ++ line-end
+instruction-line place operation operand = decimal (pos place) ++ (bytes " " ++ decimal operation) ++ (bytes " " ++ decimal operand) ++ line-end
 
 -- so many lines, from a place of a code table on
 unfoldable pub lines-from : ℕ → ℕ → List ℤ → List ℕ

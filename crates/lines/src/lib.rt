@@ -1,33 +1,43 @@
 // Lines, added to a page that is lent. Each function answers the place after what it added; what the page has no room for is left out.
-ghost use mathlib.Core.List.{_++_};
-ghost use Prim.Native.Nat.{_≤_, _*_, _/_};
+ghost use mathlib.Core.Path.{_≡_};
+ghost use mathlib.Core.Bool.{cond};
+ghost use mathlib.Core.List.{[], _∷_, _++_};
+ghost use Prim.Native.Nat.{_≤_, _<_, _+_, _*_, _/_};
+ghost use lib.Dec.{eqb};
 ghost use lib.IntN.{pos};
-ghost use lib.ListN.{length};
+ghost use lib.ListN.{length, getD};
 ghost use Rattle.instruction.specs.Numbers.{decimal};
 ghost use Rattle.lines.specs.Added.{Added};
+ghost use Rattle.lines.specs.Forms.{filled};
 ghost use Rattle.lines.specs.Lines.{refused-line, ending-line, accepted-line, instruction-line, table-lines};
 use base::Refusal;
+use base::smaller;
 use instruction::decimal::put_decimal;
 use instruction::decimal::put_digits;
 
-pub fn put(page: &mut [u8], at: usize, bytes: &[u8]) -> usize
-    ensures { λ r. ⌜ Added (now (bytes .entry)) (now (page .entry)) at (now (page .exit)) r ⌝ }
+pub fn put_byte(page: &mut [u8], at: usize, b: u8) -> usize
+    ensures { λ r. ⌜ Added (b ∷ []) (now (page .entry)) at (now (page .exit)) r ⌝ }
 {
     if page.len() <= at {
         return page.len();
     }
-    let mut i = 0;
-    while i < bytes.len() {
-        if page.len() <= at + i {
-            return page.len();
-        }
-        page[at + i] = bytes[i];
-        i += 1;
-    }
-    at + i
+    page[at] = b;
+    at + 1
 }
 
-pub fn put_natural(page: &mut [u8], at: usize, n: u64) -> usize
+pub fn put(page: &mut [u8], at: usize, bytes: &[u8]) -> usize
+    ensures { λ r. ⌜ Added (now (bytes .entry)) (now (page .entry)) at (now (page .exit)) r ⌝ }
+{
+    let mut next = smaller(page.len(), at);
+    let mut i = 0;
+    while i < bytes.len() {
+        next = put_byte(page, next, bytes[i]);
+        i += 1;
+    }
+    next
+}
+
+fn put_natural(page: &mut [u8], at: usize, n: u64) -> usize
     ensures { λ r. ⌜ Added (decimal (pos n)) (now (page .entry)) at (now (page .exit)) r ⌝ }
 {
     let mut digits = [0u8; 20];
@@ -35,20 +45,39 @@ pub fn put_natural(page: &mut [u8], at: usize, n: u64) -> usize
     put(page, at, &digits[from..])
 }
 
-pub fn put_integer(page: &mut [u8], at: usize, v: i32) -> usize
-    ensures { λ r. ⌜ Added (decimal v) (now (page .entry)) at (now (page .exit)) r ⌝ }
+// A number in the place of the sign, and any other byte as it is.
+fn put_filled(page: &mut [u8], at: usize, b: u8, n: u64) -> usize
+    ensures { λ r. ⌜ Added (cond (eqb b 35) (decimal (pos n)) (b ∷ [])) (now (page .entry)) at (now (page .exit)) r ⌝ }
 {
-    let mut digits = [0u8; 20];
-    let from = put_decimal(v, &mut digits);
-    put(page, at, &digits[from..])
+    if b == b'#' {
+        return put_natural(page, at, n);
+    }
+    put_byte(page, at, b)
 }
 
-// A number after its label.
-pub fn put_counted(page: &mut [u8], at: usize, label: &[u8], n: u64) -> usize
-    ensures { λ r. ⌜ Added (now (label .entry) ++ decimal (pos n)) (now (page .entry)) at (now (page .exit)) r ⌝ }
+fn number_at(numbers: [u64; 3], k: usize) -> u64
+    ensures { λ r. ⌜ r ≡ getD numbers k 0 ⌝ }
 {
-    let next = put(page, at, label);
-    put_natural(page, next, n)
+    if k < 3 {
+        return numbers[k];
+    }
+    0
+}
+
+// A form, with the next of the numbers in the place of each sign `#`.
+pub fn fill(page: &mut [u8], at: usize, form: &[u8], numbers: [u64; 3]) -> usize
+    ensures { λ r. ⌜ Added (filled (now (form .entry)) numbers) (now (page .entry)) at (now (page .exit)) r ⌝ }
+{
+    let mut next = smaller(page.len(), at);
+    let mut i = 0;
+    let mut k = 0;
+    while i < form.len() {
+        let b = form[i];
+        next = put_filled(page, next, b, number_at(numbers, k));
+        k += (b == b'#') as usize;
+        i += 1;
+    }
+    next
 }
 
 // `refused N P`
@@ -56,41 +85,53 @@ pub fn refused(page: &mut [u8], at: usize, why: Refusal, place: usize) -> usize
     ensures { λ r. ⌜ Added (refused-line why place) (now (page .entry)) at (now (page .exit)) r ⌝ }
 {
     let number = base::number(why);
-    let a = put_counted(page, at, b"refused ", number as u64);
-    let b = put_counted(page, a, b" ", place as u64);
-    put(page, b, b"\n")
+    fill(page, at, b"refused # #\n", [number as u64, place as u64, 0])
 }
 
 // `ending E steps S`
 pub fn ending(page: &mut [u8], at: usize, ending: u8, steps: u32) -> usize
     ensures { λ r. ⌜ Added (ending-line ending steps) (now (page .entry)) at (now (page .exit)) r ⌝ }
 {
-    let a = put_counted(page, at, b"ending ", ending as u64);
-    let b = put_counted(page, a, b" steps ", steps as u64);
-    put(page, b, b"\n")
+    fill(
+        page,
+        at,
+        b"ending # steps #\n",
+        [ending as u64, steps as u64, 0],
+    )
 }
 
 // `accepted I C N`
 pub fn accepted(page: &mut [u8], at: usize, instructions: usize, cells: usize, need: usize) -> usize
     ensures { λ r. ⌜ Added (accepted-line instructions cells need) (now (page .entry)) at (now (page .exit)) r ⌝ }
 {
-    let a = put_counted(page, at, b"accepted ", instructions as u64);
-    let b = put_counted(page, a, b" ", cells as u64);
-    let c = put_counted(page, b, b" ", need as u64);
-    put(page, c, b"\n")
+    fill(
+        page,
+        at,
+        b"accepted # # #\n",
+        [instructions as u64, cells as u64, need as u64],
+    )
 }
 
-// `PLACE OPERATION OPERAND`
-pub fn instruction(page: &mut [u8], at: usize, place: usize, operation: i32, operand: i32) -> usize
-    ensures { λ r. ⌜ Added (instruction-line place operation operand) (now (page .entry)) at (now (page .exit)) r ⌝ }
-    ensures { λ _. ⌜ length (instruction-line place operation operand) ≤ 65 ⌝ }
+// A space, and a number after it.
+fn put_spaced(page: &mut [u8], at: usize, v: i32) -> usize
+    ensures { λ r. ⌜ Added (32 ∷ decimal v) (now (page .entry)) at (now (page .exit)) r ⌝ }
 {
-    let a = put_natural(page, at, place as u64);
-    let b = put(page, a, b" ");
-    let c = put_integer(page, b, operation);
-    let d = put(page, c, b" ");
-    let e = put_integer(page, d, operand);
-    put(page, e, b"\n")
+    let mut digits = [0u8; 20];
+    let from = put_decimal(v, &mut digits) - 1;
+    digits[from] = b' ';
+    put(page, at, &digits[from..])
+}
+
+// `PLACE OPERATION OPERAND`, of a pair of a code table.
+fn instruction(page: &mut [u8], at: usize, table: &[i32], i: usize) -> usize
+    requires { ⌜ i < length (now table) / 2 ⌝ }
+    ensures { λ r. ⌜ Added (instruction-line i (getD (now (table .entry)) (i * 2) (pos 0)) (getD (now (table .entry)) (i * 2 + 1) (pos 0))) (now (page .entry)) at (now (page .exit)) r ⌝ }
+    ensures { λ _. ⌜ length (instruction-line i (getD (now (table .entry)) (i * 2) (pos 0)) (getD (now (table .entry)) (i * 2 + 1) (pos 0))) ≤ 65 ⌝ }
+{
+    let a = put_natural(page, at, i as u64);
+    let b = put_spaced(page, a, table[i * 2]);
+    let c = put_spaced(page, b, table[i * 2 + 1]);
+    put_byte(page, c, b'\n')
 }
 
 // A line for each pair of a code table.
@@ -98,10 +139,10 @@ pub fn instructions(page: &mut [u8], at: usize, table: &[i32]) -> usize
     ensures { λ r. ⌜ Added (table-lines (now (table .entry))) (now (page .entry)) at (now (page .exit)) r ⌝ }
     ensures { λ _. ⌜ length (table-lines (now (table .entry))) ≤ length (now (table .entry)) / 2 * 65 ⌝ }
 {
-    let mut next = put(page, at, b"");
+    let mut next = smaller(page.len(), at);
     let mut i = 0;
     while i < table.len() / 2 {
-        next = instruction(page, next, i, table[i * 2], table[i * 2 + 1]);
+        next = instruction(page, next, table, i);
         i += 1;
     }
     next

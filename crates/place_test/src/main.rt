@@ -7,12 +7,14 @@ fn see(label: &[u8], text: &[u8], place: usize) {
     let mut page = [0u8; 400];
     let spot = place::spot_of(text, place);
     let a = lines::put(&mut page, 0, label);
-    let b = lines::put_counted(&mut page, a, b": ", spot.line as u64);
-    let c = lines::put_counted(&mut page, b, b":", spot.column as u64);
-    let d = lines::put_counted(&mut page, c, b" from ", spot.start as u64);
-    let e = lines::put(&mut page, d, b"\n");
-    let f = marks::put_marked_line(&mut page, e, text, place);
-    io::write_all(STDOUT_FILENO, base::part(&page, 0, f));
+    let b = lines::fill(
+        &mut page,
+        a,
+        b": #:# from #\n",
+        [spot.line as u64, spot.column as u64, spot.start as u64],
+    );
+    let c = marks::put_marked_line(&mut page, b, text, place);
+    io::write_all(STDOUT_FILENO, base::part(&page, 0, c));
 }
 
 fn sixteen_thousand() {
@@ -38,9 +40,9 @@ fn short_page() {
 
 fn case(c: &[u8]) {
     see(
-        cases::nth(c, b'|', 0),
-        cases::nth(c, b'|', 1),
-        cases::worth(cases::nth(c, b'|', 2)),
+        rows::nth(c, b'|', 0),
+        rows::nth(c, b'|', 1),
+        cases::worth(rows::nth(c, b'|', 2)),
     );
 }
 
@@ -48,15 +50,15 @@ fn each(all: &[u8]) {
     let n = cases::count(all, cases::END);
     let mut i = 0;
     while i < n {
-        case(cases::nth(all, cases::END, i));
+        case(rows::nth(all, cases::END, i));
         i += 1;
     }
 }
 
 fn tried(all: &[u8]) {
-    each(cases::nth(all, b'#', 0));
+    each(rows::nth(all, b'#', 0));
     sixteen_thousand();
-    each(cases::nth(all, b'#', 1));
+    each(rows::nth(all, b'#', 1));
 }
 
 fn main() {

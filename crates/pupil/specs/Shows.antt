@@ -1,6 +1,6 @@
 -- For a pupil: where the text was refused, its line with a mark under the place, and why; or the output, and how the run ended.
 use mathlib.Core.Bool.{Bool, true, false, cond}
-use mathlib.Core.List.{List, [], _++_}
+use mathlib.Core.List.{List, [], _∷_, _++_}
 use Prim.Native.Nat.{ℕ}
 use lib.Dec.{eqb}
 use lib.ListN.{length}
@@ -9,7 +9,8 @@ use Rattle.base.specs.declared.Refusal.the-variants.{TooLong, NoLexeme, TooLarg
 use Rattle.base.specs.Answers.{Answer, given, refused, number}
 use Rattle.base.specs.Bytes.{bytes}
 use Rattle.machine.specs.Machine.{Report}
-use Rattle.lines.specs.Lines.{line-end, counted}
+use Rattle.lines.specs.Forms.{filled}
+use Rattle.lines.specs.Lines.{line-end}
 use Rattle.place.specs.Places.{spot}
 use Rattle.marks.specs.Shown.{Widths, marked-line}
 use Rattle.words.specs.Words.{why, how}
@@ -27,18 +28,22 @@ has-place Undeclared = true
 has-place TooManyDeclared = true
 has-place TooMuchCode = false
 
-unfoldable pub at-place : Widths → List ℕ → ℕ → List ℕ
-at-place w text place = counted ", line " (spot text place .line) ++ counted ", column " (spot text place .column) ++ bytes ":\n" ++ marked-line w text place
+-- with line, column, and the line with a mark under the place
+unfoldable pub at-place : Widths → List ℕ → Refusal → ℕ → List ℕ
+at-place w text r place =
+    filled (bytes "refusal #, line #, column #:\n") (number r ∷ spot text place .line ∷ spot text place .column ∷ []) ++ marked-line w text place
+
+unfoldable pub shown-where : Widths → List ℕ → Refusal → ℕ → List ℕ
+shown-where w text r place = cond (has-place r) (at-place w text r place) (filled (bytes "refusal #:\n") (number r ∷ []))
 
 unfoldable pub shown-refusal : Widths → Numbers → List ℕ → Refusal → ℕ → List ℕ
-shown-refusal w n text r place =
-    counted "refusal " (number r) ++ cond (has-place r) (at-place w text place) (bytes ":\n") ++ why n text r place ++ line-end
+shown-refusal w n text r place = shown-where w text r place ++ why n text r place ++ line-end
 
 unfoldable pub shown-output : List ℕ → List ℕ
 shown-output output = cond (eqb (length output) 0) (bytes "(nothing was printed)") output
 
 unfoldable pub steps-taken : ℕ → ℕ → ℕ → List ℕ
-steps-taken ending steps budget = counted "\nending " ending ++ counted " after " steps ++ counted " of " budget ++ bytes " steps: "
+steps-taken ending steps budget = filled (bytes "\nending # after # of # steps: ") (ending ∷ steps ∷ budget ∷ [])
 
 unfoldable pub shown-run : Numbers → Report → List ℕ
 shown-run n r = shown-output (r .output) ++ steps-taken (r .ending) (r .steps) (n .budget) ++ how n (r .ending) ++ line-end

@@ -1,13 +1,11 @@
 // What came of a text in plain words, for a pupil, into a page that is lent.
 ghost use mathlib.Core.Path.{_≡_};
-ghost use mathlib.Core.Bool.{cond};
 ghost use mathlib.Core.List.{[]};
 ghost use Prim.Native.Nat.{_+_, _≤_};
 ghost use lib.ListN.{length};
-ghost use Rattle.base.specs.Bytes.{bytes};
 ghost use Rattle.lines.specs.Added.{Added};
 ghost use Rattle.tells.specs.Writes.{Writes, with-output};
-ghost use Rattle.pupil.specs.Shows.{has-place, at-place, shown-refusal, shown-output, steps-taken, shown-run, shown};
+ghost use Rattle.pupil.specs.Shows.{has-place, at-place, shown-where, shown-refusal, shown-output, steps-taken, shown-run, shown};
 use base::Refusal;
 use limits::Station;
 use machine::Report;
@@ -28,36 +26,37 @@ fn has_place(why: Refusal) -> bool
     }
 }
 
-// Line, column, and the line with a mark under the place.
-fn put_place(page: &mut [u8], at: usize, text: &[u8], place: usize) -> usize
-    ensures { λ r. do ⌜ Added (at-place (record { whole = (← ⟦Window::WHOLE⟧ .entry); last = (← ⟦Window::LAST⟧ .entry); next = (← ⟦Window::NEXT⟧ .entry); rest = (← ⟦Window::REST⟧ .entry) }) (now (text .entry)) place) (now (page .entry)) at (now (page .exit)) r ⌝ }
-    ensures { λ _. do ⌜ length (at-place (record { whole = (← ⟦Window::WHOLE⟧ .entry); last = (← ⟦Window::LAST⟧ .entry); next = (← ⟦Window::NEXT⟧ .entry); rest = (← ⟦Window::REST⟧ .entry) }) (now (text .entry)) place) ≤ 227 ⌝ }
+// With line, column, and the line with a mark under the place.
+fn put_place(page: &mut [u8], text: &[u8], why: Refusal, place: usize) -> usize
+    ensures { λ r. do ⌜ Added (at-place (record { whole = (← ⟦Window::WHOLE⟧ .entry); last = (← ⟦Window::LAST⟧ .entry); next = (← ⟦Window::NEXT⟧ .entry); rest = (← ⟦Window::REST⟧ .entry) }) (now (text .entry)) why place) (now (page .entry)) 0 (now (page .exit)) r ⌝ }
 {
+    let number = base::number(why);
     let spot = place::spot_of(text, place);
-    let a = lines::put_counted(page, at, b", line ", spot.line as u64);
-    let b = lines::put_counted(page, a, b", column ", spot.column as u64);
-    let c = lines::put(page, b, b":\n");
-    marks::put_marked_line(page, c, text, place)
+    let next = lines::fill(
+        page,
+        0,
+        b"refusal #, line #, column #:\n",
+        [number as u64, spot.line as u64, spot.column as u64],
+    );
+    marks::put_marked_line(page, next, text, place)
 }
 
-fn put_where(page: &mut [u8], at: usize, text: &[u8], why: Refusal, place: usize) -> usize
-    ensures { λ r. do ⌜ Added (cond (has-place why) (at-place (record { whole = (← ⟦Window::WHOLE⟧ .entry); last = (← ⟦Window::LAST⟧ .entry); next = (← ⟦Window::NEXT⟧ .entry); rest = (← ⟦Window::REST⟧ .entry) }) (now (text .entry)) place) (bytes ":\n")) (now (page .entry)) at (now (page .exit)) r ⌝ }
-    ensures { λ _. do ⌜ length (cond (has-place why) (at-place (record { whole = (← ⟦Window::WHOLE⟧ .entry); last = (← ⟦Window::LAST⟧ .entry); next = (← ⟦Window::NEXT⟧ .entry); rest = (← ⟦Window::REST⟧ .entry) }) (now (text .entry)) place) (bytes ":\n")) ≤ 227 ⌝ }
+fn put_where(page: &mut [u8], text: &[u8], why: Refusal, place: usize) -> usize
+    ensures { λ r. do ⌜ Added (shown-where (record { whole = (← ⟦Window::WHOLE⟧ .entry); last = (← ⟦Window::LAST⟧ .entry); next = (← ⟦Window::NEXT⟧ .entry); rest = (← ⟦Window::REST⟧ .entry) }) (now (text .entry)) why place) (now (page .entry)) 0 (now (page .exit)) r ⌝ }
 {
     if has_place(why) {
-        return put_place(page, at, text, place);
+        return put_place(page, text, why, place);
     }
-    lines::put(page, at, b":\n")
+    lines::fill(page, 0, b"refusal #:\n", [base::number(why) as u64, 0, 0])
 }
 
 fn put_refusal(page: &mut [u8], n: Numbers, text: &[u8], why: Refusal, place: usize) -> usize
     ensures { λ r. do ⌜ Added (shown-refusal (record { whole = (← ⟦Window::WHOLE⟧ .entry); last = (← ⟦Window::LAST⟧ .entry); next = (← ⟦Window::NEXT⟧ .entry); rest = (← ⟦Window::REST⟧ .entry) }) n (now (text .entry)) why place) (now (page .entry)) 0 (now (page .exit)) r ⌝ }
     ensures { λ _. do ⌜ length (shown-refusal (record { whole = (← ⟦Window::WHOLE⟧ .entry); last = (← ⟦Window::LAST⟧ .entry); next = (← ⟦Window::NEXT⟧ .entry); rest = (← ⟦Window::REST⟧ .entry) }) n (now (text .entry)) why place) ≤ 512 ⌝ }
 {
-    let a = lines::put_counted(page, 0, b"refusal ", base::number(why) as u64);
-    let b = put_where(page, a, text, why, place);
-    let c = words::put_why(page, b, n, text, why, place);
-    lines::put(page, c, b"\n")
+    let a = put_where(page, text, why, place);
+    let b = words::put_why(page, a, n, text, why, place);
+    lines::put_byte(page, b, b'\n')
 }
 
 fn put_output(page: &mut [u8], output: &[u8]) -> usize
@@ -72,10 +71,12 @@ fn put_output(page: &mut [u8], output: &[u8]) -> usize
 fn put_steps(page: &mut [u8], at: usize, ending: u8, steps: u32, budget: u32) -> usize
     ensures { λ r. ⌜ Added (steps-taken ending steps budget) (now (page .entry)) at (now (page .exit)) r ⌝ }
 {
-    let a = lines::put_counted(page, at, b"\nending ", ending as u64);
-    let b = lines::put_counted(page, a, b" after ", steps as u64);
-    let c = lines::put_counted(page, b, b" of ", budget as u64);
-    lines::put(page, c, b" steps: ")
+    lines::fill(
+        page,
+        at,
+        b"\nending # after # of # steps: ",
+        [ending as u64, steps as u64, budget as u64],
+    )
 }
 
 fn put_run(page: &mut [u8], n: Numbers, r: Report, output: &[u8]) -> usize
@@ -85,7 +86,7 @@ fn put_run(page: &mut [u8], n: Numbers, r: Report, output: &[u8]) -> usize
     let a = put_output(page, output);
     let b = put_steps(page, a, r.ending, r.steps, n.budget);
     let c = words::put_how(page, b, n, r.ending);
-    lines::put(page, c, b"\n")
+    lines::put_byte(page, c, b'\n')
 }
 
 // What came of a text in plain words.

@@ -109,9 +109,9 @@ enum Way {
 }
 
 fn case(way: Way, c: &[u8]) {
-    let label = cases::nth(c, b';', 0);
-    let one = cases::nth(c, b';', 1);
-    let two = cases::nth(c, b';', 2);
+    let label = rows::nth(c, b';', 0);
+    let one = rows::nth(c, b';', 1);
+    let two = rows::nth(c, b';', 2);
     match way {
         Way::See => show(c, c, b""),
         Way::Show => show(label, one, two),
@@ -123,7 +123,7 @@ fn each(way: Way, all: &[u8]) {
     let n = cases::count(all, b'|');
     let mut i = 0;
     while i < n {
-        case(way, cases::nth(all, b'|', i));
+        case(way, rows::nth(all, b'|', i));
         i += 1;
     }
 }

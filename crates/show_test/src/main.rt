@@ -51,22 +51,22 @@ fn whole_texts() {
 }
 
 fn case(c: &[u8]) {
-    see(cases::nth(c, b'|', 0), cases::nth(c, b'|', 1));
+    see(rows::nth(c, b'|', 0), rows::nth(c, b'|', 1));
 }
 
 fn each(all: &[u8]) {
     let n = cases::count(all, cases::END);
     let mut i = 0;
     while i < n {
-        case(cases::nth(all, cases::END, i));
+        case(rows::nth(all, cases::END, i));
         i += 1;
     }
 }
 
 fn tried(all: &[u8]) {
-    each(cases::nth(all, b'#', 0));
+    each(rows::nth(all, b'#', 0));
     whole_texts();
-    each(cases::nth(all, b'#', 1));
+    each(rows::nth(all, b'#', 1));
 }
 
 fn main() {

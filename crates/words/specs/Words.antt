@@ -1,87 +1,84 @@
--- Document 01, "Refused texts" and "How a run ends", in plain words: what is wrong, and what to look for.
-use mathlib.Core.List.{List, _++_}
+-- Document 01, "Refused texts" and "How a run ends", in plain words: what is wrong, and what to look for. Each sentence ends its row, and a sign stands in the place of a number.
+use mathlib.Core.List.{List, [], _∷_, _++_}
 use mathlib.Core.Bool.{Bool, true, false, cond}
-use Prim.Native.Nat.{ℕ}
+use Prim.Native.Nat.{ℕ, min}
 use Prim.Native.Char.{code}
 use lib.Dec.{eqb, leb}
 use lib.ListN.{length, getD}
 use Rattle.base.specs.Bytes.{bytes, letter-or-digit, digit}
 use Rattle.base.specs.declared.Refusal.{Refusal}
 use Rattle.base.specs.declared.Refusal.the-variants.{TooLong, NoLexeme, TooLarge, NoProgram, TooDeep, Undeclared, TooManyDeclared, TooMuchCode}
-use Rattle.lines.specs.Lines.{counted}
+use Rattle.rows.specs.Rows.{nth}
+use Rattle.lines.specs.Forms.{filled}
 use Rattle.words.specs.declared.Numbers.{Numbers}
+use Rattle.words.specs.declared.Row.{Row}
+
+-- which row, and the number in the place of its sign
+abbrev row : ℕ → ℕ → Row
+row line number = record { line = line; number = number }
+
+unfoldable pub in-words : List ℕ → Row → List ℕ
+in-words table r = filled (nth 10 (r .line) table) (r .number ∷ [])
 
 -- ---- why a text is refused
 
+unfoldable pub refusals : List ℕ
+refusals =
+    bytes "The text is longer than # bytes. Make it shorter.\n" ++
+    bytes "This string is never closed. Is a quote missing at its end?\n" ++
+    bytes "A colon stands only before =, as in t := 1.\n" ++
+    bytes "This word mixes letters and digits. A name has only letters, a number only digits.\n" ++
+    bytes "O has only plain characters. Is this a quotation mark of another kind? A string stands between two of these: \"\n" ++
+    bytes "O does not use this character.\n" ++
+    bytes "This string has more than # bytes between its quotes. Print it in parts.\n" ++
+    bytes "This number is larger than #, the largest there is.\n" ++
+    bytes "This word has more than # letters. Choose a shorter one.\n" ++
+    bytes "The text ends here, and the program is not finished. Is a } or a command missing?\n" ++
+    bytes "This cannot stand here. Read the sentence aloud up to the mark: what should follow?\n" ++
+    bytes "This is too deep: of ( { IF WHILE NOT only # may be open at once. Split the sentence.\n" ++
+    bytes "This name is not declared here. Write INT and the name before it, in this block or in one around it.\n" ++
+    bytes "This is one declaration too many: a text may have #. Use fewer variables.\n" ++
+    bytes "The program is too long: its code may have # instructions. Make it shorter.\n"
+
 -- no lexeme: by the byte at the place
-unfoldable pub no-lexeme : ℕ → List ℕ
-no-lexeme b =
-    cond (eqb b (code "\"")) (bytes "This string is never closed. Is a quote missing at its end?")
-    (cond (eqb b (code ":")) (bytes "A colon stands only before =, as in t := 1.")
-    (cond (letter-or-digit b) (bytes "This word mixes letters and digits. A name has only letters, a number only digits.")
-    (cond (leb 128 b) (bytes "O has only plain characters. Is this a quotation mark of another kind? A string stands between two of these: \"")
-    (bytes "O does not use this character."))))
+unfoldable pub no-lexeme : ℕ → ℕ
+no-lexeme b = cond (eqb b (code "\"")) 1 (cond (eqb b (code ":")) 2 (cond (letter-or-digit b) 3 (cond (leb 128 b) 4 5)))
 
 -- too large: likewise
-unfoldable pub lexeme-too-large : Numbers → ℕ → List ℕ
-lexeme-too-large n b =
-    cond (eqb b (code "\"")) (counted "This string has more than " (n .string) ++ bytes " bytes between its quotes. Print it in parts.")
-    (cond (digit b) (counted "This number is larger than " (n .literal) ++ bytes ", the largest there is.")
-    (counted "This word has more than " (n .word) ++ bytes " letters. Choose a shorter one."))
+unfoldable pub too-large : Numbers → ℕ → Row
+too-large n b = cond (eqb b (code "\"")) (row 6 (n .string)) (cond (digit b) (row 7 (n .literal)) (row 8 (n .word)))
 
 -- no program: by whether the text ends there
-unfoldable pub cannot-stand : Bool → List ℕ
-cannot-stand true = bytes "The text ends here, and the program is not finished. Is a } or a command missing?"
-cannot-stand false = bytes "This cannot stand here. Read the sentence aloud up to the mark: what should follow?"
-
--- the others: by the most that there may be
-unfoldable pub too-long : ℕ → List ℕ
-too-long most = counted "The text is longer than " most ++ bytes " bytes. Make it shorter."
-
-unfoldable pub too-deep : ℕ → List ℕ
-too-deep most = counted "This is too deep: of ( { IF WHILE NOT only " most ++ bytes " may be open at once. Split the sentence."
-
-unfoldable pub undeclared : List ℕ
-undeclared = bytes "This name is not declared here. Write INT and the name before it, in this block or in one around it."
-
-unfoldable pub too-many-declared : ℕ → List ℕ
-too-many-declared most = counted "This is one declaration too many: a text may have " most ++ bytes ". Use fewer variables."
-
-unfoldable pub too-much-code : ℕ → List ℕ
-too-much-code most = counted "The program is too long: its code may have " most ++ bytes " instructions. Make it shorter."
+unfoldable pub why-row : Numbers → List ℕ → Refusal → ℕ → Row
+why-row n text TooLong place = row 0 (n .text)
+why-row n text NoLexeme place = row (no-lexeme (getD text place 0)) 0
+why-row n text TooLarge place = too-large n (getD text place 0)
+why-row n text NoProgram place = row (cond (leb (length text) place) 9 10) 0
+why-row n text TooDeep place = row 11 (n .nesting)
+why-row n text Undeclared place = row 12 0
+why-row n text TooManyDeclared place = row 13 (n .declarations)
+why-row n text TooMuchCode place = row 14 (n .instructions)
 
 unfoldable pub why : Numbers → List ℕ → Refusal → ℕ → List ℕ
-why n text TooLong place = too-long (n .text)
-why n text NoLexeme place = no-lexeme (getD text place 0)
-why n text TooLarge place = lexeme-too-large n (getD text place 0)
-why n text NoProgram place = cannot-stand (leb (length text) place)
-why n text TooDeep place = too-deep (n .nesting)
-why n text Undeclared place = undeclared
-why n text TooManyDeclared place = too-many-declared (n .declarations)
-why n text TooMuchCode place = too-much-code (n .instructions)
+why n text refusal place = in-words refusals (why-row n text refusal place)
 
 -- ---- how a run ended
 
-unfoldable pub how-from-6 : Numbers → ℕ → List ℕ
-how-from-6 n ending =
-    cond (eqb ending 6) (bytes "The stack was full.")
-    (cond (eqb ending 7) (counted "The output does not fit its " (n .room) ++ bytes " bytes. Print less.")
-    (bytes "The code was bad."))
+-- a row for each ending; for any other, the last
+unfoldable pub endings : List ℕ
+endings =
+    bytes "It came to its end. What it printed may be sent on.\n" ++
+    bytes "It met ERROR: the program itself says that something is wrong.\n" ++
+    bytes "It used up its # steps. Is there a WHILE whose condition stays true?\n" ++
+    bytes "READ found no reading left. Give it more readings, or read fewer.\n" ++
+    bytes "A result was outside -2147483648 to 2147483647. Which sum or product grows so large?\n" ++
+    bytes "It divided by 0. Test for 0 before you divide.\n" ++
+    bytes "The stack was full.\n" ++
+    bytes "The output does not fit its # bytes. Print less.\n" ++
+    bytes "The code was bad.\n"
 
-unfoldable pub how-from-4 : Numbers → ℕ → List ℕ
-how-from-4 n ending =
-    cond (eqb ending 4) (bytes "A result was outside -2147483648 to 2147483647. Which sum or product grows so large?")
-    (cond (eqb ending 5) (bytes "It divided by 0. Test for 0 before you divide.")
-    (how-from-6 n ending))
-
-unfoldable pub how-from-2 : Numbers → ℕ → List ℕ
-how-from-2 n ending =
-    cond (eqb ending 2) (counted "It used up its " (n .budget) ++ bytes " steps. Is there a WHILE whose condition stays true?")
-    (cond (eqb ending 3) (bytes "READ found no reading left. Give it more readings, or read fewer.")
-    (how-from-4 n ending))
+unfoldable pub how-row : Numbers → ℕ → Row
+how-row n ending = cond (eqb ending 2) (row 2 (n .budget)) (cond (eqb ending 7) (row 7 (n .room)) (row (min ending 8) 0))
 
 unfoldable pub how : Numbers → ℕ → List ℕ
-how n ending =
-    cond (eqb ending 0) (bytes "It came to its end. What it printed may be sent on.")
-    (cond (eqb ending 1) (bytes "It met ERROR: the program itself says that something is wrong.")
-    (how-from-2 n ending))
+how n ending = in-words endings (how-row n ending)

@@ -1,11 +1,10 @@
 // The refusals and the endings in plain words, added to a page.
 ghost use mathlib.Core.Path.{_≡_};
-ghost use mathlib.Core.List.{_++_};
-ghost use lib.IntN.{pos};
-ghost use lib.ListN.{getD};
-ghost use Rattle.instruction.specs.Numbers.{decimal};
+ghost use mathlib.Core.Bool.{cond};
+ghost use Prim.Native.Nat.{_≤_};
+ghost use lib.ListN.{length, getD};
 ghost use Rattle.lines.specs.Added.{Added};
-ghost use Rattle.words.specs.Words.{no-lexeme, lexeme-too-large, cannot-stand, too-long, too-deep, undeclared, too-many-declared, too-much-code, why, how-from-6, how-from-4, how-from-2, how};
+ghost use Rattle.words.specs.Words.{no-lexeme, too-large, why-row, how-row, in-words, why, how};
 use base::Refusal;
 use base::Such;
 use limits::Limits;
@@ -43,89 +42,10 @@ pub fn of_the_paper() -> Numbers
     }
 }
 
-// Words around a number.
-fn around(page: &mut [u8], at: usize, label: &[u8], n: u64, more: &[u8]) -> usize
-    ensures { λ r. ⌜ Added (now (label .entry) ++ decimal (pos n) ++ now (more .entry)) (now (page .entry)) at (now (page .exit)) r ⌝ }
-{
-    let next = lines::put_counted(page, at, label, n);
-    lines::put(page, next, more)
-}
-
-fn put_no_lexeme(page: &mut [u8], at: usize, b: u8) -> usize
-    ensures { λ r. ⌜ Added (no-lexeme b) (now (page .entry)) at (now (page .exit)) r ⌝ }
-{
-    if b == b'"' {
-        return lines::put(
-            page,
-            at,
-            b"This string is never closed. Is a quote missing at its end?",
-        );
-    }
-    if b == b':' {
-        return lines::put(page, at, b"A colon stands only before =, as in t := 1.");
-    }
-    if base::is_such(Such::LetterOrDigit, b) {
-        return lines::put(
-            page,
-            at,
-            b"This word mixes letters and digits. A name has only letters, a number only digits.",
-        );
-    }
-    if 128 <= b {
-        return lines::put(
-            page,
-            at,
-            b"O has only plain characters. Is this a quotation mark of another kind? A string stands between two of these: \"",
-        );
-    }
-    lines::put(page, at, b"O does not use this character.")
-}
-
-fn put_too_large(page: &mut [u8], at: usize, n: Numbers, b: u8) -> usize
-    ensures { λ r. ⌜ Added (lexeme-too-large n b) (now (page .entry)) at (now (page .exit)) r ⌝ }
-{
-    if b == b'"' {
-        return around(
-            page,
-            at,
-            b"This string has more than ",
-            n.string as u64,
-            b" bytes between its quotes. Print it in parts.",
-        );
-    }
-    if base::is_digit(b) {
-        return around(
-            page,
-            at,
-            b"This number is larger than ",
-            n.literal as u64,
-            b", the largest there is.",
-        );
-    }
-    around(
-        page,
-        at,
-        b"This word has more than ",
-        n.word as u64,
-        b" letters. Choose a shorter one.",
-    )
-}
-
-fn put_cannot_stand(page: &mut [u8], at: usize, ends: bool) -> usize
-    ensures { λ r. ⌜ Added (cannot-stand ends) (now (page .entry)) at (now (page .exit)) r ⌝ }
-{
-    if ends {
-        return lines::put(
-            page,
-            at,
-            b"The text ends here, and the program is not finished. Is a } or a command missing?",
-        );
-    }
-    lines::put(
-        page,
-        at,
-        b"This cannot stand here. Read the sentence aloud up to the mark: what should follow?",
-    )
+// A row of a table, and the number in the place of its sign.
+struct Row {
+    line: usize,
+    number: u64,
 }
 
 // The byte at a place, or 0 past the text.
@@ -138,62 +58,113 @@ fn byte_at(text: &[u8], place: usize) -> u8
     0
 }
 
-fn put_too_long(page: &mut [u8], at: usize, most: usize) -> usize
-    ensures { λ r. ⌜ Added (too-long most) (now (page .entry)) at (now (page .exit)) r ⌝ }
+fn no_lexeme(b: u8) -> usize
+    ensures { λ r. ⌜ r ≡ no-lexeme b ⌝ }
 {
-    around(
-        page,
-        at,
-        b"The text is longer than ",
-        most as u64,
-        b" bytes. Make it shorter.",
-    )
+    if b == b'"' {
+        return 1;
+    }
+    if b == b':' {
+        return 2;
+    }
+    if base::is_such(Such::LetterOrDigit, b) {
+        return 3;
+    }
+    if 128 <= b {
+        return 4;
+    }
+    5
 }
 
-fn put_too_deep(page: &mut [u8], at: usize, most: usize) -> usize
-    ensures { λ r. ⌜ Added (too-deep most) (now (page .entry)) at (now (page .exit)) r ⌝ }
+fn too_large(n: Numbers, b: u8) -> Row
+    ensures { λ r. ⌜ r ≡ too-large n b ⌝ }
 {
-    around(
-        page,
-        at,
-        b"This is too deep: of ( { IF WHILE NOT only ",
-        most as u64,
-        b" may be open at once. Split the sentence.",
-    )
+    if b == b'"' {
+        return Row {
+            line: 6,
+            number: n.string as u64,
+        };
+    }
+    if base::is_digit(b) {
+        return Row {
+            line: 7,
+            number: n.literal as u64,
+        };
+    }
+    Row {
+        line: 8,
+        number: n.word as u64,
+    }
 }
 
-fn put_too_many(page: &mut [u8], at: usize, most: usize) -> usize
-    ensures { λ r. ⌜ Added (too-many-declared most) (now (page .entry)) at (now (page .exit)) r ⌝ }
+fn cannot_stand(ends: bool) -> usize
+    ensures { λ r. ⌜ r ≡ cond ends 9 10 ⌝ }
 {
-    around(
-        page,
-        at,
-        b"This is one declaration too many: a text may have ",
-        most as u64,
-        b". Use fewer variables.",
-    )
+    if ends { 9 } else { 10 }
 }
 
-fn put_too_much(page: &mut [u8], at: usize, most: usize) -> usize
-    ensures { λ r. ⌜ Added (too-much-code most) (now (page .entry)) at (now (page .exit)) r ⌝ }
+fn why_row(n: Numbers, text: &[u8], refusal: Refusal, place: usize) -> Row
+    ensures { λ r. ⌜ r ≡ why-row n (now (text .entry)) refusal place ⌝ }
 {
-    around(
-        page,
-        at,
-        b"The program is too long: its code may have ",
-        most as u64,
-        b" instructions. Make it shorter.",
-    )
+    match refusal {
+        Refusal::TooLong => Row {
+            line: 0,
+            number: n.text as u64,
+        },
+        Refusal::NoLexeme => Row {
+            line: no_lexeme(byte_at(text, place)),
+            number: 0,
+        },
+        Refusal::TooLarge => too_large(n, byte_at(text, place)),
+        Refusal::NoProgram => Row {
+            line: cannot_stand(text.len() <= place),
+            number: 0,
+        },
+        Refusal::TooDeep => Row {
+            line: 11,
+            number: n.nesting as u64,
+        },
+        Refusal::Undeclared => Row {
+            line: 12,
+            number: 0,
+        },
+        Refusal::TooManyDeclared => Row {
+            line: 13,
+            number: n.declarations as u64,
+        },
+        Refusal::TooMuchCode => Row {
+            line: 14,
+            number: n.instructions as u64,
+        },
+    }
 }
 
-fn put_undeclared(page: &mut [u8], at: usize) -> usize
-    ensures { λ r. ⌜ Added undeclared (now (page .entry)) at (now (page .exit)) r ⌝ }
+fn how_row(n: Numbers, ending: u8) -> Row
+    ensures { λ r. ⌜ r ≡ how-row n ending ⌝ }
 {
-    lines::put(
-        page,
-        at,
-        b"This name is not declared here. Write INT and the name before it, in this block or in one around it.",
-    )
+    if ending == 2 {
+        return Row {
+            line: 2,
+            number: n.budget as u64,
+        };
+    }
+    if ending == 7 {
+        return Row {
+            line: 7,
+            number: n.room as u64,
+        };
+    }
+    Row {
+        line: base::smaller(ending as usize, 8),
+        number: 0,
+    }
+}
+
+fn put_row(page: &mut [u8], at: usize, table: &[u8], row: Row) -> usize
+    ensures { λ r. ⌜ Added (in-words (now (table .entry)) row) (now (page .entry)) at (now (page .exit)) r ⌝ }
+{
+    let form = rows::nth(table, b'\n', row.line);
+    lines::fill(page, at, form, [row.number, 0, 0])
 }
 
 // Why a text is refused.
@@ -206,92 +177,51 @@ pub fn put_why(
     place: usize,
 ) -> usize
     ensures { λ r. ⌜ Added (why n (now (text .entry)) refusal place) (now (page .entry)) at (now (page .exit)) r ⌝ }
+    ensures { λ _. ⌜ length (why n (now (text .entry)) refusal place) ≤ 160 ⌝ }
 {
-    match refusal {
-        Refusal::TooLong => put_too_long(page, at, n.text),
-        Refusal::NoLexeme => put_no_lexeme(page, at, byte_at(text, place)),
-        Refusal::TooLarge => put_too_large(page, at, n, byte_at(text, place)),
-        Refusal::NoProgram => put_cannot_stand(page, at, text.len() <= place),
-        Refusal::TooDeep => put_too_deep(page, at, n.nesting),
-        Refusal::Undeclared => put_undeclared(page, at),
-        Refusal::TooManyDeclared => put_too_many(page, at, n.declarations),
-        Refusal::TooMuchCode => put_too_much(page, at, n.instructions),
-    }
-}
-
-fn put_how_from_6(page: &mut [u8], at: usize, n: Numbers, ending: u8) -> usize
-    ensures { λ r. ⌜ Added (how-from-6 n ending) (now (page .entry)) at (now (page .exit)) r ⌝ }
-{
-    if ending == 6 {
-        return lines::put(page, at, b"The stack was full.");
-    }
-    if ending == 7 {
-        return around(
-            page,
-            at,
-            b"The output does not fit its ",
-            n.room as u64,
-            b" bytes. Print less.",
-        );
-    }
-    lines::put(page, at, b"The code was bad.")
-}
-
-fn put_how_from_4(page: &mut [u8], at: usize, n: Numbers, ending: u8) -> usize
-    ensures { λ r. ⌜ Added (how-from-4 n ending) (now (page .entry)) at (now (page .exit)) r ⌝ }
-{
-    if ending == 4 {
-        return lines::put(
-            page,
-            at,
-            b"A result was outside -2147483648 to 2147483647. Which sum or product grows so large?",
-        );
-    }
-    if ending == 5 {
-        return lines::put(page, at, b"It divided by 0. Test for 0 before you divide.");
-    }
-    put_how_from_6(page, at, n, ending)
-}
-
-fn put_how_from_2(page: &mut [u8], at: usize, n: Numbers, ending: u8) -> usize
-    ensures { λ r. ⌜ Added (how-from-2 n ending) (now (page .entry)) at (now (page .exit)) r ⌝ }
-{
-    if ending == 2 {
-        return around(
-            page,
-            at,
-            b"It used up its ",
-            n.budget as u64,
-            b" steps. Is there a WHILE whose condition stays true?",
-        );
-    }
-    if ending == 3 {
-        return lines::put(
-            page,
-            at,
-            b"READ found no reading left. Give it more readings, or read fewer.",
-        );
-    }
-    put_how_from_4(page, at, n, ending)
+    let row = why_row(n, text, refusal, place);
+    put_row(
+        page,
+        at,
+        b"The text is longer than # bytes. Make it shorter.
+This string is never closed. Is a quote missing at its end?
+A colon stands only before =, as in t := 1.
+This word mixes letters and digits. A name has only letters, a number only digits.
+O has only plain characters. Is this a quotation mark of another kind? A string stands between two of these: \"
+O does not use this character.
+This string has more than # bytes between its quotes. Print it in parts.
+This number is larger than #, the largest there is.
+This word has more than # letters. Choose a shorter one.
+The text ends here, and the program is not finished. Is a } or a command missing?
+This cannot stand here. Read the sentence aloud up to the mark: what should follow?
+This is too deep: of ( { IF WHILE NOT only # may be open at once. Split the sentence.
+This name is not declared here. Write INT and the name before it, in this block or in one around it.
+This is one declaration too many: a text may have #. Use fewer variables.
+The program is too long: its code may have # instructions. Make it shorter.
+",
+        row,
+    )
 }
 
 // How a run ended.
 pub fn put_how(page: &mut [u8], at: usize, n: Numbers, ending: u8) -> usize
     ensures { λ r. ⌜ Added (how n ending) (now (page .entry)) at (now (page .exit)) r ⌝ }
+    ensures { λ _. ⌜ length (how n ending) ≤ 160 ⌝ }
 {
-    if ending == 0 {
-        return lines::put(
-            page,
-            at,
-            b"It came to its end. What it printed may be sent on.",
-        );
-    }
-    if ending == 1 {
-        return lines::put(
-            page,
-            at,
-            b"It met ERROR: the program itself says that something is wrong.",
-        );
-    }
-    put_how_from_2(page, at, n, ending)
+    let row = how_row(n, ending);
+    put_row(
+        page,
+        at,
+        b"It came to its end. What it printed may be sent on.
+It met ERROR: the program itself says that something is wrong.
+It used up its # steps. Is there a WHILE whose condition stays true?
+READ found no reading left. Give it more readings, or read fewer.
+A result was outside -2147483648 to 2147483647. Which sum or product grows so large?
+It divided by 0. Test for 0 before you divide.
+The stack was full.
+The output does not fit its # bytes. Print less.
+The code was bad.
+",
+        row,
+    )
 }

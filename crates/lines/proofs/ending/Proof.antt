@@ -1,23 +1,19 @@
 -- `lines::ending` meets its contract. Assumes nothing.
-use Rattle.lines.proofs.Adds.{adds-then}
-use Rattle.base.specs.Bytes.{bytes, bytes-from}
-use Rattle.lines.specs.Lines.{ending-line, counted}
 use borrow.Author.Needs.{needs}
+use Rattle.base.specs.Bytes.{bytes, bytes-from}
+use Rattle.lines.specs.Forms.{filled}
+use Rattle.lines.specs.Lines.{ending-line}
 use Rattle.lines.proofs.ending.Statement.{statement}
 use Rattle.lines.proofs.ending.Tie as tie
 
 returns : tie.Need-returns
-unfolding ending-line counted bytes bytes-from
-returns c = adds-then (adds-then (c .before .before .before .before .before .before .before .before .before .before .before .before .put-counted .ensures) (c .before .before .before .before .before .before .before .put-counted2 .ensures)) (c .before .before .put .ensures)
+unfolding ending-line filled bytes bytes-from
+returns c = c .before .before .fill .ensures
 
 pub ending-spec : {M : Type 1} → statement M
 ending-spec =
     tie.close
     (tie.spec
-    (λ c. search needs)
-    (λ c κs. search needs)
-    (λ c. search needs)
-    (λ c κs. search needs)
     (λ c. search needs)
     (λ c κs. search needs)
     (λ c. search needs)

@@ -1,35 +1,24 @@
 -- `words::put_how` meets its contract. Assumes nothing.
-use borrow.Author.Tests.{eq-eqb, ne-eqb}
-use Rattle.base.specs.Bytes.{bytes, bytes-from}
-use Rattle.words.specs.Words.{how}
 use borrow.Author.Needs.{needs}
+use Rattle.base.specs.Bytes.{bytes, bytes-from}
+use Rattle.lines.proofs.Short.{Small}
+use Rattle.words.specs.Words.{endings, how}
+use Rattle.words.proofs.Short.{short-ending}
 use Rattle.words.proofs.put_how.Statement.{statement}
 use Rattle.words.proofs.put_how.Tie as tie
 
 returns : tie.Need-returns
-unfolding how bytes bytes-from
-returns c = rw (eq-eqb (c .before .before .before .before .before .before .before .args .ending) 0 (c .before .before .before .before .before .if1 .taken)) (c .before .before .put .ensures)
-
-returns-2 : tie.Need-returns-2
-unfolding how bytes bytes-from
-returns-2 c = rw (ne-eqb (c .before .before .before .before .before .before .before .before .args .ending) 0 (c .before .before .before .before .before .before .if1 .left), eq-eqb (c .before .before .before .before .before .before .before .before .args .ending) 1 (c .before .before .before .before .before .if2 .taken)) (c .before .before .put2 .ensures)
-
-returns-3 : tie.Need-returns-3
-unfolding how bytes bytes-from
-returns-3 c = rw (ne-eqb (c .before .before .before .before .before .before .before .args .ending) 0 (c .before .before .before .before .before .if1 .left), ne-eqb (c .before .before .before .before .before .before .before .args .ending) 1 (c .before .before .before .before .if2 .left)) (c .before .before .put-how-from-2 .ensures)
+unfolding how endings bytes bytes-from
+returns c =
+    let small : Small (c .before .before .before .before .before .how-row .result .number) = search needs in
+    (rw (c .before .before .before .before .before .how-row .ensures) at (c .before .before .put-row .ensures), rw (c .before .before .before .before .before .how-row .ensures) at (short-ending (c .before .before .before .before .before .how-row .result) small))
 
 pub put-how-spec : {M : Type 1} → statement M
 put-how-spec =
     tie.close
     (tie.spec
+    (λ c κs. search needs)
     (λ c. search needs)
     (λ c κs. search needs)
     (λ c. search needs)
-    returns
-    (λ c. search needs)
-    (λ c κs. search needs)
-    (λ c. search needs)
-    returns-2
-    (λ c κs. search needs)
-    (λ c. search needs)
-    returns-3)
+    returns)
