@@ -158,7 +158,7 @@ fn lent_by(bytes: &[u8]) -> Lent {
 
 // A case with its table and its readings.
 fn case(s: &[u8], table: &[i32], readings: &[i32]) {
-    let l = lent_by(rows::nth(cases::nth(s, b'|', 0), b':', 1));
+    let l = lent_by(rows::nth(rows::nth(s, b'|', 0), b':', 1));
     run(rows::nth(s, b'|', 2), table, readings, l);
 }
 
