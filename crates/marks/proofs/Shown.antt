@@ -1,20 +1,22 @@
 -- Laws of what is shown of a line. Assumes nothing.
 use mathlib.Core.Path.{_≡_, refl, sym}
-use mathlib.Core.List.{List, [], _∷_, _++_, map, map-append}
+use mathlib.Core.List.{List, [], _∷_, _++_, map}
 use mathlib.Core.Bool.{Bool, true, false, cond}
-use Prim.Native.Nat.{ℕ, _+_, _-_, _≤_, _<_, min}
+use Prim.Native.Nat.{ℕ, suc, _+_, _-_, _*_, _≤_, _<_, min}
 use native.Mathlib.Nat.{min-eq-left, min-eq-right}
 use native.Mathlib.Numerals.{add-one}
 use native.Mathlib.Omega.{arith}
 use borrow.Author.Tests.{le-ltb, lt-ltb, leb-true, leb-false}
 use lib.Dec.{leb, ltb}
 use lib.ListN.{length, take, drop, length-take, length-drop, drop-of-length-le, getD, replicate, replicate-append-replicate}
-use lib.Seq.{take-suc, take-all, take-length, drop-length}
-use Rattle.base.specs.Bytes.{run}
-use Rattle.base.proofs.Runs.{run-fits, run-part}
+use lib.Seq.{take-all, take-length, drop-length, drop-cons}
+use mir.Val.{boolByte}
+use Rattle.base.specs.Bytes.{bytes, bytes-from, run}
+use Rattle.base.specs.inner.Parts.{part}
+use Rattle.base.proofs.Runs.{run-fits, run-take}
 use Rattle.lines.specs.Added.{Added}
 use Rattle.place.specs.Places.{goes-on, no-line-feed, within, line-start, before, from-place}
-use Rattle.marks.specs.Shown.{Widths, seen, shown-from, shown-to, line, mark, marked, marked-line}
+use Rattle.marks.specs.Shown.{Widths, seen, shown-from, shown-to, only, line, mark, marked, marked-line}
 
 -- a part that goes to the end
 pub to-end : (s : List ℕ) (i : ℕ) → take (length s - i) (drop i s) ≡ drop i s
@@ -63,28 +65,42 @@ pub to-fits : (next rest : ℕ) (bs : List ℕ) {r : ℕ} → r ≡ shown-to nex
 unfolding shown-to within
 to-fits next rest bs e = omega (arith, run-fits goes-on (take rest (drop next bs)), length-take rest (drop next bs), length-drop next bs)
 
--- one byte more is seen
-pub seen-more : (bs : List ℕ) (i : ℕ) → i < length bs → map seen (take (i + 1) bs) ≡ map seen (take i bs) ++ seen (getD bs i 0) ∷ []
-seen-more bs i h = rw (add-one, take-suc bs i 0 h) (map-append seen (take i bs) (getD bs i 0 ∷ []))
+-- what is seen of the bytes from a place on
+pub seen-on : (bs : List ℕ) (i : ℕ) → i < length bs → map seen (drop i bs) ≡ (seen (getD bs i 0) ∷ []) ++ map seen (drop (i + 1) bs)
+seen-on bs i h = rw (add-one i, drop-cons bs i 0 h)
 
-pub space-more : (i : ℕ) → replicate {A = ℕ} (i + 1) 32 ≡ replicate i 32 ++ 32 ∷ []
-space-more i = sym (replicate-append-replicate {A = ℕ} i 1 32)
+-- a byte so many times, and the dots and the spaces of a line
+module _ (b n i : ℕ) where
+  pub times-on : i < n → replicate (n - i) b ≡ (b ∷ []) ++ replicate (n - (i + 1)) b
+  times-on h = let e : n - i ≡ suc (n - (i + 1)) = omega arith in rw e
 
--- the bytes from a place on, up to the end of its line
-pub end-fits : (text : List ℕ) (p r : ℕ) → p ≤ length text → r ≡ length (run no-line-feed (take (length text - p) (drop p text))) → p + r ≤ length text
-end-fits text p r h e = omega (arith, run-fits no-line-feed (take (length text - p) (drop p text)), length-take (length text - p) (drop p text), length-drop p text)
+  pub times-out : n ≤ i → replicate (n - i) b ≡ []
+  times-out h = let e : n - i ≡ 0 = omega arith in rw e
+
+pub times-start : (b n : ℕ) → replicate n b ≡ replicate (n - 0) b
+times-start b n = let e : n - 0 ≡ n = omega arith in rw e
+
+pub dots : (t : Bool) → replicate (3 * boolByte t) 46 ≡ only t (bytes "...")
+unfolding only bytes bytes-from
+dots true = refl
+dots false = refl
+
+pub spaces : (t : Bool) (k : ℕ) → replicate (2 + 3 * boolByte t + k) 32 ≡ bytes "  " ++ only t (bytes "   ") ++ replicate k 32
+unfolding only bytes bytes-from
+spaces true k = sym (replicate-append-replicate {A = ℕ} 5 k 32)
+spaces false k = sym (replicate-append-replicate {A = ℕ} 2 k 32)
 
 pub same-adds : {s t page page′ : List ℕ} {at end : ℕ} → s ≡ t → Added s page at page′ end → Added t page at page′ end
 same-adds e a = rw e at a
 
--- the two lines, from parts that go to the end
-pub marked-parts : (w : Widths) (bs cs : List ℕ) (from to : ℕ) → from ≡ shown-from (w .whole) (w .last) bs → to ≡ shown-to (w .next) (w .rest) cs → line (ltb 0 from) (take (length bs - from) (drop from bs)) (take to cs) (ltb to (length cs)) ++ mark (ltb 0 from) (take (length bs - from) (drop from bs)) ≡ marked w bs cs
-unfolding marked
-marked-parts w bs cs from to ef et = rw (to-end bs from, ef, et)
+-- the two lines, from parts
+pub marked-parts : (w : Widths) (bs cs : List ℕ) (from to : ℕ) → from ≡ shown-from (w .whole) (w .last) bs → to ≡ shown-to (w .next) (w .rest) cs → line (ltb 0 from) (part bs from (length bs)) (part cs 0 to) (ltb to (length cs)) ++ mark (ltb 0 from) (part bs from (length bs)) ≡ marked w bs cs
+unfolding marked part
+marked-parts w bs cs from to ef et = let z : to - 0 ≡ to = omega arith in rw (z, to-end bs from, ef, et)
 
 -- the same, from parts of the text
-pub marked-text : (w : Widths) (text : List ℕ) (place p start r : ℕ) → p ≡ within text place → start ≡ line-start text p → r ≡ length (run no-line-feed (take (length text - p) (drop p text))) → marked w (take (p - start) (drop start text)) (take (p + r - p) (drop p text)) ≡ marked-line w text place
-unfolding marked-line before from-place
+pub marked-text : (w : Widths) (text : List ℕ) (place p start r : ℕ) → p ≡ within text place → start ≡ line-start text p → r ≡ length (run no-line-feed (part text p (length text))) → marked w (part text start p) (part (part text p (length text)) 0 r) ≡ marked-line w text place
+unfolding marked-line before from-place part
 marked-text w text place p start r ep es er =
-    let ends : p + r ≡ p + length (run no-line-feed (drop p text)) = rw (er, to-end text p) in
-    rw (run-part no-line-feed text p (p + r) ends, es, ep)
+    let z : r - 0 ≡ r = omega arith in
+    rw (z, er, to-end text p, run-take no-line-feed (drop p text), es, ep)

@@ -1,9 +1,14 @@
 // How the line of a place is shown, with a mark under the place.
 ghost use mathlib.Core.Path.{_≡_};
-ghost use mathlib.Core.List.{map};
+ghost use mathlib.Core.List.{_++_, map};
 ghost use lib.ListN.{replicate};
+ghost use Rattle.base.specs.Bytes.{bytes};
 ghost use Rattle.lines.specs.Added.{Added};
 ghost use Rattle.marks.specs.Shown.{seen, shown-from, shown-to, only, line, mark, marked, marked-line};
+use base::part;
+use base::smaller;
+use lines::put;
+use lines::put_byte;
 use place::Such;
 use place::count;
 use place::run;
@@ -61,34 +66,35 @@ fn shown_to(after: &[u8]) -> usize
 fn put_seen(page: &mut [u8], at: usize, bytes: &[u8]) -> usize
     ensures { λ r. ⌜ Added (map seen (now (bytes .entry))) (now (page .entry)) at (now (page .exit)) r ⌝ }
 {
-    let mut next = lines::put(page, at, b"");
+    let mut next = smaller(page.len(), at);
     let mut i = 0;
     while i < bytes.len() {
-        next = lines::put(page, next, &[seen(bytes[i])]);
+        next = put_byte(page, next, seen(bytes[i]));
         i += 1;
     }
     next
 }
 
-fn put_spaces(page: &mut [u8], at: usize, n: usize) -> usize
-    ensures { λ r. ⌜ Added (replicate n 32) (now (page .entry)) at (now (page .exit)) r ⌝ }
+// A byte so many times, added to a page.
+fn put_times(page: &mut [u8], at: usize, n: usize, b: u8) -> usize
+    ensures { λ r. ⌜ Added (replicate n b) (now (page .entry)) at (now (page .exit)) r ⌝ }
 {
-    let mut next = lines::put(page, at, b"");
+    let mut next = smaller(page.len(), at);
     let mut i = 0;
     while i < n {
-        next = lines::put(page, next, b" ");
+        next = put_byte(page, next, b);
         i += 1;
     }
     next
 }
 
-fn put_only(page: &mut [u8], at: usize, yes: bool, bytes: &[u8]) -> usize
-    ensures { λ r. ⌜ Added (only yes (now (bytes .entry))) (now (page .entry)) at (now (page .exit)) r ⌝ }
+// The line up to the place, by what is shown before it, and whether something is left out in front.
+fn put_front(page: &mut [u8], at: usize, front: bool, before: &[u8]) -> usize
+    ensures { λ r. ⌜ Added (bytes "  " ++ only front (bytes "...") ++ map seen (now (before .entry))) (now (page .entry)) at (now (page .exit)) r ⌝ }
 {
-    if yes {
-        return lines::put(page, at, bytes);
-    }
-    lines::put(page, at, b"")
+    let a = put_times(page, at, 2, b' ');
+    let b = put_times(page, a, 3 * (front as usize), b'.');
+    put_seen(page, b, before)
 }
 
 // The line, by what is shown before the place and from it on, and whether something is left out in front and behind.
@@ -102,21 +108,18 @@ fn put_line(
 ) -> usize
     ensures { λ r. ⌜ Added (line front (now (before .entry)) (now (after .entry)) behind) (now (page .entry)) at (now (page .exit)) r ⌝ }
 {
-    let a = lines::put(page, at, b"  ");
-    let b = put_only(page, a, front, b"...");
-    let c = put_seen(page, b, before);
-    let d = put_seen(page, c, after);
-    let e = put_only(page, d, behind, b"...");
-    lines::put(page, e, b"\n")
+    let a = put_front(page, at, front, before);
+    let b = put_seen(page, a, after);
+    let c = put_times(page, b, 3 * (behind as usize), b'.');
+    put_byte(page, c, b'\n')
 }
 
 fn put_mark(page: &mut [u8], at: usize, front: bool, before: &[u8]) -> usize
     ensures { λ r. ⌜ Added (mark front (now (before .entry))) (now (page .entry)) at (now (page .exit)) r ⌝ }
 {
-    let a = lines::put(page, at, b"  ");
-    let b = put_only(page, a, front, b"   ");
-    let c = put_spaces(page, b, count(before, Such::Begins));
-    lines::put(page, c, b"^\n")
+    let cells = 2 + 3 * (front as usize) + count(before, Such::Begins);
+    let a = put_times(page, at, cells, b' ');
+    put(page, a, b"^\n")
 }
 
 // Both, by the line's bytes before the place and from it on.
@@ -125,15 +128,16 @@ fn put_marked(page: &mut [u8], at: usize, before: &[u8], after: &[u8]) -> usize
 {
     let from = shown_from(before);
     let to = shown_to(after);
-    let m = put_line(
+    let shown = part(before, from, before.len());
+    let next = put_line(
         page,
         at,
         0 < from,
-        &before[from..],
-        &after[..to],
+        shown,
+        part(after, 0, to),
         to < after.len(),
     );
-    put_mark(page, m, 0 < from, &before[from..])
+    put_mark(page, next, 0 < from, shown)
 }
 
 // Adds the line of a place to a page, and a mark under the place.
@@ -142,7 +146,7 @@ pub fn put_marked_line(page: &mut [u8], at: usize, text: &[u8], place: usize) ->
 {
     let p = within(text, place);
     let spot = place::spot_of(text, place);
-    let start = spot.start;
-    let end = p + run(&text[p..], Such::NoFeed);
-    put_marked(page, at, &text[start..p], &text[p..end])
+    let rest = part(text, p, text.len());
+    let end = run(rest, Such::NoFeed);
+    put_marked(page, at, part(text, spot.start, p), part(rest, 0, end))
 }
