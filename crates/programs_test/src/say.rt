@@ -1,7 +1,6 @@
 // What a program said: standard output, standard error and the status, each after its name.
 ghost use Prim.Native.Nat.{_≤_};
 ghost use lib.ListN.{length};
-use crate::texts;
 use libc::STDOUT_FILENO;
 use tells::Said;
 
@@ -38,34 +37,13 @@ fn line_start(bytes: &[u8], end: usize) -> usize
     0
 }
 
-// Too many bytes to be shown whole.
-fn is_long(bytes: &[u8]) -> bool {
-    100 < bytes.len()
-}
-
 // The first line and the last two of many bytes.
 fn ends(bytes: &[u8]) {
     let last = line_start(bytes, bytes.len());
     let start = line_start(bytes, last);
-    let first = texts::place_from(bytes, 0, b'\n');
-    write(texts::first(bytes, first));
+    write(rows::nth(bytes, b'\n', 0));
     write(b"\n..\n");
     write(&bytes[start..]);
-}
-
-fn shown(bytes: &[u8]) {
-    if is_long(bytes) {
-        return ends(bytes);
-    }
-    write(bytes);
-}
-
-// How many bytes there are, where not all are shown.
-fn size(bytes: &[u8]) {
-    if is_long(bytes) {
-        number(b".. bytes ", bytes.len() as u64);
-        write(b"\n");
-    }
 }
 
 // Says so where the last line has no end.
@@ -76,6 +54,18 @@ fn line_end(bytes: &[u8]) {
             write(b"\n\\ no line end\n");
         }
     }
+}
+
+// How many bytes there are, where not all are shown.
+fn shown(bytes: &[u8]) {
+    if bytes.len() <= 100 {
+        write(bytes);
+        return line_end(bytes);
+    }
+    ends(bytes);
+    line_end(bytes);
+    number(b".. bytes ", bytes.len() as u64);
+    write(b"\n");
 }
 
 fn is_left(page: &[u8], from: usize, filler: u8) -> bool {
@@ -96,11 +86,8 @@ pub fn left(page: &[u8], from: usize, filler: u8) {
 
 // So many bytes of a page that was filled with `#`.
 fn stream(name: &[u8], page: &[u8], n: usize) {
-    let bytes = texts::first(page, n);
     write(name);
-    shown(bytes);
-    line_end(bytes);
-    size(bytes);
+    shown(base::part(page, 0, n));
     left(page, n, b'#');
 }
 

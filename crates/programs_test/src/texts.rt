@@ -1,63 +1,4 @@
-// Parts of bytes, and bytes put together from pieces.
-ghost use Prim.Native.Nat.{_≤_};
-ghost use lib.ListN.{length};
-
-// The first so many bytes.
-pub fn first(bytes: &[u8], n: usize) -> &[u8] {
-    if bytes.len() <= n {
-        return bytes;
-    }
-    &bytes[..n]
-}
-
-// The bytes past the first so many.
-pub fn rest(bytes: &[u8], n: usize) -> &[u8] {
-    if n <= bytes.len() {
-        return &bytes[n..];
-    }
-    first(bytes, 0)
-}
-
-// The first place of a byte from a place on, or the end.
-pub fn place_from(bytes: &[u8], from: usize, b: u8) -> usize
-    requires { ⌜ from ≤ length (now bytes) ⌝ }
-    ensures { λ r. ⌜ from ≤ r ⌝ }
-    ensures { λ r. ⌜ r ≤ length (now (bytes .entry)) ⌝ }
-{
-    let mut i = from;
-    while i < bytes.len() {
-        if bytes[i] == b {
-            return i;
-        }
-        i += 1;
-    }
-    i
-}
-
-fn digit(b: u8) -> usize
-    ensures { λ r. ⌜ r ≤ 9 ⌝ }
-{
-    if b < 48 {
-        return 0;
-    }
-    if 57 < b {
-        return 0;
-    }
-    (b - 48) as usize
-}
-
-fn number(digits: &[u8]) -> usize {
-    let mut n = 0;
-    let mut i = 0;
-    while i < digits.len() {
-        if 9999 < n {
-            return n;
-        }
-        n = n * 10 + digit(digits[i]);
-        i += 1;
-    }
-    n
-}
+// Bytes put together from pieces.
 
 fn many(text: &mut [u8], at: usize, piece: &[u8], n: usize) -> usize {
     let mut e = at;
@@ -71,20 +12,18 @@ fn many(text: &mut [u8], at: usize, piece: &[u8], n: usize) -> usize {
 
 // A number, a colon and a piece: the piece so many times.
 fn put_again(text: &mut [u8], at: usize, bytes: &[u8]) -> usize {
-    let colon = place_from(bytes, 0, b':');
     many(
         text,
         at,
-        rest(bytes, colon + 1),
-        number(first(bytes, colon)),
+        rows::nth(bytes, b':', 1),
+        cases::worth(rows::nth(bytes, b':', 0)),
     )
 }
 
-fn put(text: &mut [u8], at: usize, bytes: &[u8], again: bool) -> usize {
-    if again {
-        return put_again(text, at, bytes);
-    }
-    lines::put(text, at, bytes)
+// A piece between carets, and one as it stands.
+fn put_both(text: &mut [u8], at: usize, again: &[u8], once: &[u8]) -> usize {
+    let e = put_again(text, at, again);
+    lines::put(text, e, once)
 }
 
 // What a byte stands for that has no sign of its own.
@@ -107,17 +46,25 @@ fn put_meant(text: &mut [u8]) {
     }
 }
 
+fn put_line(text: &mut [u8], line: &[u8]) -> usize {
+    let n = cases::count(line, b'^') / 2;
+    let mut e = lines::put(text, 0, rows::nth(line, b'^', 0));
+    let mut i = 0;
+    while i < n {
+        e = put_both(
+            text,
+            e,
+            rows::nth(line, b'^', i * 2 + 1),
+            rows::nth(line, b'^', i * 2 + 2),
+        );
+        i += 1;
+    }
+    e
+}
+
 // What a line says, every other piece between its carets to be put again and again: how long it is.
 pub fn written(text: &mut [u8], line: &[u8]) -> usize {
-    let mut end = 0;
-    let mut at = 0;
-    let mut again = false;
-    while at < line.len() {
-        let next = place_from(line, at, b'^');
-        end = put(text, end, &line[at..next], again);
-        again = !again;
-        at = next + 1;
-    }
+    let e = put_line(text, line);
     put_meant(text);
-    end
+    e
 }

@@ -1,4 +1,8 @@
-// The readings of inputs at the edges, a line for each: how many there are, and which; and when it is told that they are over.
+// The readings of the inputs of standard input, a line for each: how many there are, and which; and when it is told that they are over.
+// A case is a label and two chunks of an input, and where there is more before them, how often and what. Between semicolons it is asked for its
+// readings, and between bars, after each of the two chunks, whether they are over.
+use libc::STDIN_FILENO;
+use libc::STDOUT_FILENO;
 use readings::Reader;
 use readings::finish;
 use readings::is_over;
@@ -6,19 +10,16 @@ use readings::more;
 use readings::start;
 
 fn say(text: &[u8]) {
-    io::write_all(1, text);
+    io::write_all(STDOUT_FILENO, text);
 }
 
 fn say_number(z: i32) {
-    if z < 0 {
-        say(b"-");
-        io::print_decimal(1, (-(z as i64)) as u64);
-        return;
-    }
-    io::print_decimal(1, z as u64);
+    let mut page = [0u8; 20];
+    let n = lines::put_integer(&mut page, 0, z);
+    say(base::part(&page, 0, n));
 }
 
-// The numbers from the place `from` up to `to`.
+// The numbers from a place up to another.
 fn say_numbers(numbers: &[i32], from: usize, to: usize) {
     let mut i = from;
     while i < to {
@@ -31,28 +32,24 @@ fn say_numbers(numbers: &[i32], from: usize, to: usize) {
     }
 }
 
-// The end of an input: its line, with the readings from the place `from` on.
-fn end(label: &[u8], r: Reader, numbers: &mut [i32], from: usize) {
-    let n = finish(r, numbers);
-    say(label);
-    say(b": ");
-    io::print_decimal(1, n as u64);
-    say(b" readings:");
-    say_numbers(numbers, from, n);
-    say(b"\n");
+// Of many readings the last two are said.
+fn first_said(n: usize) -> usize {
+    if n < 9 {
+        return 0;
+    }
+    n - 2
 }
 
-// An input of two chunks.
-fn show(label: &[u8], one: &[u8], two: &[u8]) {
-    let mut numbers = [0i32; 4096];
-    let r = more(start(), one, &mut numbers);
-    let s = more(r, two, &mut numbers);
-    end(label, s, &mut numbers, 0);
+fn say_readings(numbers: &[i32], n: usize) {
+    say(b": ");
+    io::print_decimal(STDOUT_FILENO, n as u64);
+    say(b" readings:");
+    say_numbers(numbers, first_said(n), n);
 }
 
 // A chunk so many times.
-fn again(r: Reader, chunk: &[u8], times: usize, numbers: &mut [i32]) -> Reader {
-    let mut reader = r;
+fn again(chunk: &[u8], times: usize, numbers: &mut [i32]) -> Reader {
+    let mut reader = start();
     let mut i = 0;
     while i < times {
         reader = more(reader, chunk, numbers);
@@ -61,164 +58,73 @@ fn again(r: Reader, chunk: &[u8], times: usize, numbers: &mut [i32]) -> Reader {
     reader
 }
 
-// A chunk so many times, and then a last one.
-fn many(label: &[u8], chunk: &[u8], times: usize, last: &[u8], from: usize) {
+fn before(c: &[u8], mark: u8, numbers: &mut [i32]) -> Reader {
+    again(
+        rows::nth(c, mark, 4),
+        cases::worth(rows::nth(c, mark, 3)),
+        numbers,
+    )
+}
+
+// How many readings there are.
+fn read(c: &[u8], numbers: &mut [i32]) -> usize {
+    let r = before(c, b';', numbers);
+    let s = more(r, rows::nth(c, b';', 1), numbers);
+    let t = more(s, rows::nth(c, b';', 2), numbers);
+    finish(t, numbers)
+}
+
+fn show(c: &[u8]) {
     let mut numbers = [0i32; 4096];
-    let r = again(start(), chunk, times, &mut numbers);
-    let s = more(r, last, &mut numbers);
-    end(label, s, &mut numbers, from);
+    let n = read(c, &mut numbers);
+    say_readings(&numbers, n);
 }
 
 fn say_over(over: bool) {
-    if over {
-        say(b"over");
-        return;
+    if !over {
+        say(b"not ");
     }
-    say(b"not over");
+    say(b"over");
 }
 
-// What is told after each of two chunks more.
-fn told(label: &[u8], r: Reader, one: &[u8], two: &[u8], numbers: &mut [i32]) {
-    let s = more(r, one, numbers);
-    say(label);
-    say(b": ");
+// What is told after one chunk more.
+fn told(r: Reader, chunk: &[u8], numbers: &mut [i32]) -> Reader {
+    let s = more(r, chunk, numbers);
     say_over(is_over(s, numbers));
-    let t = more(s, two, numbers);
+    s
+}
+
+fn tell(c: &[u8]) {
+    let mut numbers = [0i32; 4096];
+    let r = before(c, b'|', &mut numbers);
+    say(b": ");
+    let s = told(r, rows::nth(c, b'|', 1), &mut numbers);
     say(b", then ");
-    say_over(is_over(t, numbers));
-    say(b"\n");
+    told(s, rows::nth(c, b'|', 2), &mut numbers);
 }
 
-fn tell(label: &[u8], one: &[u8], two: &[u8]) {
-    let mut numbers = [0i32; 4096];
-    told(label, start(), one, two, &mut numbers);
-}
-
-// After so many readings.
-fn tell_after(label: &[u8], times: usize, one: &[u8], two: &[u8]) {
-    let mut numbers = [0i32; 4096];
-    let r = again(start(), b"7\n", times, &mut numbers);
-    told(label, r, one, two, &mut numbers);
-}
-
-// What is done with a case: an input as its own label; a label and two chunks; a label and two chunks, after each of which it is told.
-enum Way {
-    See,
-    Show,
-    Tell,
-}
-
-fn case(way: Way, c: &[u8]) {
-    let label = rows::nth(c, b';', 0);
-    let one = rows::nth(c, b';', 1);
-    let two = rows::nth(c, b';', 2);
-    match way {
-        Way::See => show(c, c, b""),
-        Way::Show => show(label, one, two),
-        Way::Tell => tell(label, one, two),
+fn case(c: &[u8]) {
+    if 0 < cases::count(c, b'|') {
+        say(rows::nth(c, b'|', 0));
+        return tell(c);
     }
+    say(rows::nth(c, b';', 0));
+    show(c);
 }
 
-fn each(way: Way, all: &[u8]) {
-    let n = cases::count(all, b'|');
+fn each(all: &[u8]) {
+    let n = cases::count(all, cases::END);
     let mut i = 0;
     while i < n {
-        case(way, rows::nth(all, b'|', i));
+        case(rows::nth(all, cases::END, i));
+        say(b"\n");
         i += 1;
     }
 }
 
-fn words() {
-    each(Way::See, b"5-3|-|-0|007|1,2|+5|--5|- 5|4 5-3 6|4 - 6|");
-}
-
-// A byte of each kind after a number: signs, letters, the neighbours of the digits, other marks.
-fn after_a_number() {
-    each(Way::See, b"5-|5+|5x|5X|0x1|1e3|1.5|5/|5:|5_0|5\"|");
-}
-
-fn other_bytes() {
-    each(
-        Way::Show,
-        b"a NUL after a number;5\0 6|\
-          a DEL after a number;5\x7f 6|\
-          a byte 255 after a number;5\xff 6|\
-          a NUL between words;5 \0 6|\
-          a NUL for a separator;5\06|\
-          a form feed between words;5 \x0c 6|\
-          a form feed for a separator;5\x0c6|\
-          a vertical tab before a number;5 \x0b6|\
-          a no-break space between words;5 \xc2\xa0 6|\
-          a no-break space for a separator;5\xc2\xa06|\
-          a no-break space of one byte;5\xa06|",
-    );
-}
-
-fn ranges() {
-    each(
-        Way::See,
-        b"2147483647|2147483648|-2147483648|-2147483649|1 99999999999999999999999999 2|1 2147483648 2|",
-    );
-}
-
-fn chunks() {
-    each(
-        Way::Show,
-        b"empty|\
-          only separators; \t\n\r;\r\n\t |\
-          each separator;1\t2\n3\r4 5|\
-          cut by the end;12 34|\
-          cut by the end after its minus;12 -|\
-          cut by the end of its second chunk;12 3;4|\
-          a number in two chunks;12 -3;45 6|\
-          a minus and its number;12 -;345|\
-          two numbers in two chunks;12 ;345|",
-    );
-}
-
-fn lengths() {
-    many(b"4096 readings, the last two", b"7\n", 4095, b"8\n", 4094);
-    many(b"4097 readings, the last two", b"7\n", 4096, b"8\n", 4094);
-    many(b"20000 readings, the last two", b"7\n", 19999, b"8\n", 4094);
-}
-
-fn long_words() {
-    many(b"100000 zeros and 7", &[b'0'; 1000], 100, b"7", 0);
-    many(b"100000 spaces and 7", &[b' '; 1000], 100, b"7", 0);
-}
-
-fn words_that_end_them() {
-    each(
-        Way::Tell,
-        b"nothing, a separator;; |\
-          5, a separator;5; |\
-          5, a letter;5;x|\
-          5 and a separator, a plus;5 ;+|\
-          a minus, a digit;-;1|\
-          a minus, a separator;-; |\
-          a minus, a minus;-;-|\
-          a letter, a number;x; 5 |\
-          214748364, 7;214748364;7|\
-          214748364, 8;214748364;8|\
-          -214748364, 8;-214748364;8|\
-          -214748364, 9;-214748364;9|",
-    );
-}
-
-fn full_numbers() {
-    tell_after(b"4094 readings, 8, a separator", 4094, b"8", b" ");
-    tell_after(b"4095 readings, 8, a separator", 4095, b"8", b" ");
-    tell_after(b"4096 readings, a separator, 8", 4096, b" ", b"8");
-}
-
 fn main() {
-    words();
-    after_a_number();
-    other_bytes();
-    ranges();
-    chunks();
-    lengths();
-    long_words();
-    words_that_end_them();
-    full_numbers();
+    let mut file = [0u8; 4096];
+    let n = io::read_full(STDIN_FILENO, &mut file);
+    cases::put_meant(&mut file);
+    each(base::part(&file, 0, n));
 }

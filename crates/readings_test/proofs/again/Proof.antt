@@ -22,6 +22,7 @@ again-spec =
     (tie.spec
     Inv-loop
     μ-loop
+    (λ c κs. search needs)
     (λ c. refl)
     (λ c κs. search needs)
     (λ c. omega arith)

@@ -1,15 +1,14 @@
--- `readings_test::each` meets its contract. Assumes nothing.
+-- `each` meets its contract, which only asks that it is safe and ends. Assumes nothing.
 use Prim.Native.Nat.{_-_}
-use native.Mathlib.Omega.{arith}
 use borrow.Author.Needs.{needs}
 use Rattle.readings_test.proofs.each.Statement.{statement}
 use Rattle.readings_test.proofs.each.Tie as tie
 
 abbrev Inv-loop : tie.InvT-loop
-Inv-loop way all n i₀ i = Unit {0}
+Inv-loop all n i₀ t4 i = Unit {0}
 
 abbrev μ-loop : tie.MeasureT-loop
-μ-loop way all n i₀ i = n - i
+μ-loop all n i₀ t4 i = n - i
 
 pub each-spec : {M : Type 1} → statement M
 each-spec =
@@ -21,7 +20,9 @@ each-spec =
     (λ c. search needs)
     (λ c κs. search needs)
     (λ c κs. search needs)
-    (λ c. omega arith)
-    (λ c. omega arith)
+    (λ c. search needs)
+    (λ c κs. search needs)
+    (λ c. search needs)
+    (λ c. search needs)
     (λ c. search needs)
     (λ c. search needs))
