@@ -113,7 +113,7 @@ pub fn accepted(page: &mut [u8], at: usize, instructions: usize, cells: usize, n
 }
 
 // A space, and a number after it.
-fn put_spaced(page: &mut [u8], at: usize, v: i32) -> usize
+pub fn put_spaced(page: &mut [u8], at: usize, v: i32) -> usize
     ensures { λ r. ⌜ Added (32 ∷ decimal v) (now (page .entry)) at (now (page .exit)) r ⌝ }
 {
     let mut digits = [0u8; 20];

@@ -13,9 +13,9 @@ fn say(text: &[u8]) {
     io::write_all(STDOUT_FILENO, text);
 }
 
-fn say_number(z: i32) {
+fn say_spaced(z: i32) {
     let mut page = [0u8; 20];
-    let n = lines::put_integer(&mut page, 0, z);
+    let n = lines::put_spaced(&mut page, 0, z);
     say(base::part(&page, 0, n));
 }
 
@@ -26,8 +26,7 @@ fn say_numbers(numbers: &[i32], from: usize, to: usize) {
         if numbers.len() <= i {
             return;
         }
-        say(b" ");
-        say_number(numbers[i]);
+        say_spaced(numbers[i]);
         i += 1;
     }
 }

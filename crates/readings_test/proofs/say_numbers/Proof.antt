@@ -5,10 +5,10 @@ use Rattle.readings_test.proofs.say_numbers.Statement.{statement}
 use Rattle.readings_test.proofs.say_numbers.Tie as tie
 
 abbrev Inv-loop : tie.InvT-loop
-Inv-loop numbers from to i₀ t5 i = Unit {0}
+Inv-loop numbers from to i₀ i = Unit {0}
 
 abbrev μ-loop : tie.MeasureT-loop
-μ-loop numbers from to i₀ t5 i = to - i
+μ-loop numbers from to i₀ i = to - i
 
 pub say-numbers-spec : {M : Type 1} → statement M
 say-numbers-spec =
@@ -18,8 +18,6 @@ say-numbers-spec =
     μ-loop
     (λ c. search needs)
     (λ c. search needs)
-    (λ c. search needs)
-    (λ c κs. search needs)
     (λ c. search needs)
     (λ c. search needs)
     (λ c κs. search needs)
