@@ -1,7 +1,5 @@
 // Texts at the limits, put together from pieces.
-use crate::listings;
-use crate::say;
-use tables::Answer;
+use crate::answers;
 
 // The place after a piece that was put so many times.
 fn many(text: &mut [u8], at: usize, piece: &[u8], n: usize) -> usize {
@@ -14,33 +12,37 @@ fn many(text: &mut [u8], at: usize, piece: &[u8], n: usize) -> usize {
     e
 }
 
-// The answer to a text, in the table that is lent.
-fn judge(text: &[u8], table: &mut [i32]) {
-    let a = compiler::compile(text, table);
-    match a {
-        Answer::Accepted(counts) => say::accepted(counts),
-        Answer::Refused(why, place) => {
-            say::refused(why, place);
-            listings::left(table, 0);
-        }
-    }
+fn answer(text: &[u8]) {
+    let mut table = [7i32; 8192];
+    answers::say_answer(answers::compiled(text, &mut table));
 }
 
-// `open` so many times, the middle, and `close` as often.
+// So many times `open`, the middle, and as often `close`.
+fn put_nested(
+    text: &mut [u8],
+    at: usize,
+    open: &[u8],
+    n: usize,
+    middle: &[u8],
+    close: &[u8],
+) -> usize {
+    let a = many(text, at, open, n);
+    let b = lines::put(text, a, middle);
+    many(text, b, close, n)
+}
+
+// The same after a beginning.
 pub fn nested(first: &[u8], open: &[u8], n: usize, middle: &[u8], close: &[u8]) {
     let mut text = [0u8; 16385];
-    let e = lines::put(&mut text, 0, first);
-    let e = many(&mut text, e, open, n);
-    let e = lines::put(&mut text, e, middle);
-    let e = many(&mut text, e, close, n);
-    let mut table = [7i32; 8192];
-    judge(base::part(&text, 0, e), &mut table);
+    let a = lines::put(&mut text, 0, first);
+    let e = put_nested(&mut text, a, open, n, middle, close);
+    answer(base::part(&text, 0, e));
 }
 
 // The answer with only so many numbers lent.
 pub fn short(text: &[u8], numbers: usize) {
     let mut table = [7i32; 11];
     if numbers <= table.len() {
-        judge(text, &mut table[..numbers]);
+        answers::say_answer(answers::compiled(text, &mut table[..numbers]));
     }
 }

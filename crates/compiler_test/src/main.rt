@@ -4,9 +4,8 @@
 // or a text at a limit: its beginning, what is put so many times, how many, its middle, and what closes it as often.
 use libc::STDIN_FILENO;
 
+mod answers;
 mod edges;
-mod listings;
-mod say;
 
 fn at_a_limit(c: &[u8]) {
     edges::nested(
@@ -18,12 +17,17 @@ fn at_a_limit(c: &[u8]) {
     );
 }
 
+fn listed(text: &[u8]) {
+    answers::say_line(text);
+    answers::list(text);
+}
+
 fn case(c: &[u8]) {
     let first = rows::nth(c, b'|', 0);
     match cases::count(c, b'|') {
-        0 => listings::list(c),
+        0 => listed(c),
         1 => edges::short(first, cases::worth(rows::nth(c, b'|', 1))),
-        2 => say::line(first),
+        2 => answers::say_line(first),
         _ => at_a_limit(c),
     }
 }

@@ -3,8 +3,8 @@ use Prim.Native.Nat.{_-_}
 use mathlib.Core.Path.{_≡_}
 use borrow.Author.Needs.{needs}
 use lib.ListN.{length}
-use Rattle.compiler_test.proofs.listings.is_clean.Statement.{statement}
-use Rattle.compiler_test.proofs.listings.is_clean.Tie as tie
+use Rattle.compiler_test.proofs.answers.is_clean.Statement.{statement}
+use Rattle.compiler_test.proofs.answers.is_clean.Tie as tie
 
 abbrev Inv-loop : tie.InvT-loop
 Inv-loop table from i₀ i-end i = i-end ≡ length table
