@@ -1,7 +1,9 @@
 -- `marks::put_mark` meets its contract. Assumes nothing.
+use Prim.Native.Nat.{_≤_}
 use native.Mathlib.Omega.{arith}
 use borrow.Author.Needs.{needs}
 use denote.Ref.{now}
+use lib.ListN.{length}
 use Rattle.base.specs.Bytes.{bytes, bytes-from}
 use Rattle.lines.proofs.Adds.{adds-then}
 use Rattle.lines.proofs.Forms.{bit}
@@ -20,8 +22,9 @@ add-cells : tie.Need-add-cells
 add-cells c = omega (arith, bit (c .before .before .args .front))
 
 add-cells-2 : tie.Need-add-cells-2
-unfolding such
-add-cells-2 c = omega (arith, bit (c .before .before .before .args .front), c .count .ensures, count-fits begins (now (c .before .before .before .args .before)))
+add-cells-2 c =
+    let few : c .count .result ≤ length (now (c .before .before .before .args .before)) = rw (c .count .ensures) (count-fits _ _) in
+    omega (arith, bit (c .before .before .before .args .front))
 
 returns : tie.Need-returns
 unfolding mark such bytes bytes-from
