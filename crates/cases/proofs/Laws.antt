@@ -14,10 +14,6 @@ use Rattle.cases.specs.Cases.{marks, meant, worth}
 
 -- ---- counting
 
-pub bit : (t : Bool) → boolByte t ≤ 1
-bit true = omega arith
-bit false = omega arith
-
 one-or-none : (t : Bool) (n k : ℕ) → n + boolByte t + k ≡ n + cond t (suc k) k
 one-or-none true n k = omega arith
 one-or-none false n k = omega arith

@@ -5,8 +5,9 @@ use native.Mathlib.Omega.{arith}
 use denote.Ref.{now}
 use lib.Dec.{eqb}
 use lib.ListN.{length, getD, drop}
+use Rattle.lines.proofs.Forms.{bit}
 use Rattle.cases.specs.Cases.{marks}
-use Rattle.cases.proofs.Laws.{bit, marks-start, marks-on, marks-out}
+use Rattle.cases.proofs.Laws.{marks-start, marks-on, marks-out}
 use Rattle.cases.proofs.count.Statement.{statement}
 use Rattle.cases.proofs.count.Tie as tie
 
