@@ -17,7 +17,7 @@ use Rattle.sentence.proofs.Operators.{number-of}
 use Rattle.names.specs.Names.{Scope, Known, Naming, _>>=_, give, resolve}
 use Rattle.names.specs.inner.Held.{room, Sound, Kept}
 use Rattle.names.proofs.Held.{kept-all, kept-then}
-use Rattle.instruction.specs.Numbers.{Two-sided}
+use Rattle.numbers.specs.Numbers.{Two-sided}
 use Rattle.instruction.specs.Instructions.{Instruction, halt, push-int, jump, jump-if-false, two-sided, negate, not, print-int, print-str, print-str-ln, number, encode, opcode}
 use Rattle.meaning.specs.Layout.{of-mul, of-sign, of-rel, code, need}
 use Rattle.meaning.proofs.Sizes.{size}

@@ -9,7 +9,7 @@ use lib.Dec.{eqb}
 use lib.IntN.{ℤ}
 use lib.ListN.{length, take, drop, length-append}
 use lib.Seq.{take-at}
-use Rattle.instruction.specs.Endings.{normal}
+use Rattle.endings.specs.Endings.{normal}
 use Rattle.base.specs.Answers as A
 use Rattle.base.specs.Answers.{given, refused}
 use Rattle.machine.specs.Machine.{Report, room-after}

@@ -7,7 +7,7 @@ use lib.Dec.{eqb}
 use lib.IntN.{ℤ}
 use lib.ListN.{length}
 use Rattle.base.specs.Answers.{Answer, given, refused, number}
-use Rattle.instruction.specs.Endings.{normal}
+use Rattle.endings.specs.Endings.{normal}
 use Rattle.machine.specs.Machine.{Report, room-after, stack-after}
 use Rattle.compiler.specs.Compiled.{Accepted, code-of-text, need-of, table-after}
 use Rattle.kit.specs.Kit.{own-run, Faithful}

@@ -13,7 +13,7 @@ use mir.Val.{Fits, SFits, toZ, ofZ}
 use mir.Facts.{toZ-ofZ, fits-natAbs}
 use borrow.Author.Tests.{ne-eqb, ltb-true, le-ltb}
 use Rattle.instruction.specs.Instructions.{Instruction, number, encode, natural, halting, opcode, operation, decode}
-use Rattle.instruction.proofs.Signed.{from-bits, not-below}
+use Rattle.numbers.proofs.Signed.{from-bits, not-below}
 
 -- an operation number that the match found
 pub found : (z a : ℤ) → SFits w32 z → (k : ℕ) → k < 2147483648 → ofZ w32 z ≡ k → operation k a ≡ decode z a

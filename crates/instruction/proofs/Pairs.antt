@@ -9,7 +9,7 @@ use lib.Dec.{ltb, eqb}
 use lib.IntN.{ℤ, pos, negsuc}
 use lib.ListN.{length, getD, getElem?}
 use borrow.Author.Tests.{lt-ltb, eqb-true}
-use Rattle.instruction.specs.Numbers.{plus, minus, times, divide, equals, smaller, greater, is-false}
+use Rattle.numbers.specs.Numbers.{plus, minus, times, divide, equals, smaller, greater, is-false}
 use Rattle.instruction.specs.Instructions.{Instruction, halt, push-int, load-stack, store-stack, jump, jump-if-false, two-sided, negate, not, read, print-int, print-str, print-str-ln, alone, natural, halting, opcode, operation, decode, number, encode, numbers}
 
 -- an instruction that a pair can stand for: a Halt's operand is 0 or 1

@@ -1,40 +1,16 @@
--- What the code holds tells results and instructions apart, so that the contracts of `in_range`, `calculate` and `decode` leave one answer each; those of `put_digits` and `put_decimal` too. Assumes nothing.
-use mathlib.Core.Path.{_≡_, refl, sym, ap, _∙_}
+-- What the code holds tells instructions apart, so that the contract of `decode` leaves one answer. Assumes nothing.
+use mathlib.Core.Path.{_≡_, refl, ap}
 use mathlib.Core.Bool.{true, false}
-use mathlib.Core.List.{List}
 use mathlib.Core.Option.{Option, none, some}
-use Prim.Native.Nat.{ℕ}
-use native.Mathlib.Omega.{arith}
-use lib.Seq.{sets}
-use Rattle.instruction.specs.inner.Buffers.{At-the-end}
-use Rattle.instruction.specs.Numbers.{Result, value, ends, Two-sided, plus, minus, times, divide, equals, smaller, greater}
+use Rattle.numbers.specs.Numbers.{Two-sided, plus, minus, times, divide, equals, smaller, greater}
+use Rattle.numbers.specs.inner.Coded.{as-two-sided}
+use Rattle.numbers.specs.declared.arith.Operator.{Operator}
+use Rattle.numbers.specs.declared.arith.Operator.the-variants.{Plus, Minus, Times, Divide, Equals, Smaller, Greater}
+use Rattle.numbers.proofs.Unique.{same-by}
 use Rattle.instruction.specs.Instructions.{Instruction, halt, push-int, load-stack, store-stack, jump, jump-if-false, two-sided, negate, not, read, print-int, print-str, print-str-ln}
-use Rattle.instruction.specs.inner.Coded.{as-result, as-two-sided, as-instruction}
-use Rattle.instruction.specs.declared.arith.Calculated.{Calculated}
-use Rattle.instruction.specs.declared.arith.Calculated.the-variants.{Value, Ends}
-use Rattle.instruction.specs.declared.arith.Operator.{Operator}
-use Rattle.instruction.specs.declared.arith.Operator.the-variants.{Plus, Minus, Times, Divide, Equals, Smaller, Greater}
+use Rattle.instruction.specs.inner.Coded.{as-instruction}
 use Rattle.instruction.specs.declared.decode.Op.{Op}
 use Rattle.instruction.specs.declared.decode.Op.the-variants.{Bad, Halt, PushInt, LoadStack, StoreStack, Jump, JumpIfFalse, TwoSided, Negate, Not, Read, PrintInt, PrintStr}
-
--- two things with one image agree where something leads back from it
-same-by : {A B : Type 0} (f : A → B) (back : B → A) → ((a : A) → back (f a) ≡ a) → (a b : A) → f a ≡ f b → a ≡ b
-same-by f back h a b e = sym (h a) ∙ ap back e ∙ h b
-
--- ---- results
-
-abbrev result-back : Result → Calculated
-result-back (value v) = Value v
-result-back (ends e) = Ends e
-
-result-again : (r : Calculated) → result-back (as-result r) ≡ r
-result-again (Value v) = refl
-result-again (Ends e) = refl
-
-pub one-result : (r s : Calculated) → as-result r ≡ as-result s → r ≡ s
-one-result = same-by as-result result-back result-again
-
--- ---- instructions
 
 abbrev operator-back : Two-sided → Operator
 operator-back plus = Plus
@@ -88,10 +64,3 @@ op-again (PrintStr q true) = refl
 
 pub one-instruction : (o p : Op) → as-instruction o ≡ as-instruction p → o ≡ p
 one-instruction = same-by as-instruction op-back op-again
-
--- ---- bytes at the end of a buffer
-
-pub one-at-the-end : {bs first last last′ : List ℕ} {at at′ : ℕ} → At-the-end bs first last at → At-the-end bs first last′ at′ → (at ≡ at′) × (last ≡ last′)
-one-at-the-end {bs} {first} {at} {at′} p q =
-    let e : at ≡ at′ = omega (arith, p .count, q .count) in
-    (e, p .bytes ∙ ap (λ n. sets first n bs) e ∙ sym (q .bytes))

@@ -6,7 +6,7 @@ use Prim.Native.Nat.{ℕ}
 use lib.Dec.{ltb, eqb}
 use lib.IntN.{ℤ, pos, negsuc, natAbs}
 use lib.ListN.{getD}
-use Rattle.instruction.specs.Numbers.{Two-sided, plus, minus, times, divide, equals, smaller, greater, is-false}
+use Rattle.numbers.specs.Numbers.{Two-sided, plus, minus, times, divide, equals, smaller, greater, is-false}
 
 pub data Instruction : Type 0 where
   halt : ℕ → Instruction

@@ -1,4 +1,2 @@
-pub mod Endings
-pub mod Numbers
 pub mod Instructions
 pub mod inner

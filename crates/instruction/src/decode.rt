@@ -2,11 +2,11 @@
 ghost use mathlib.Core.Path.{_≡_};
 ghost use mathlib.Core.Bool.{cond};
 ghost use mathlib.Core.Option.{none};
-ghost use Rattle.instruction.specs.Numbers.{is-false};
+ghost use Rattle.numbers.specs.Numbers.{is-false};
 ghost use Rattle.instruction.specs.Instructions.{halting, decode};
 ghost use Rattle.instruction.specs.inner.Coded.{as-instruction};
-use super::arith::Operator;
 use super::operations;
+use numbers::arith::Operator;
 
 // An instruction as it is done: one for the operators and relations, and one for the strings, with or without a line feed.
 pub enum Op {

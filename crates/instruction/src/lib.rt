@@ -1,6 +1,3 @@
-// The nineteen instructions: their numbers, what the operators and relations give, and how a number is printed.
-pub mod arith;
-pub mod decimal;
+// The nineteen instructions: their numbers, and the instruction of each pair.
 pub mod decode;
-pub mod endings;
 pub mod operations;

@@ -8,7 +8,7 @@ use Rattle.limits.specs.Limits.{Limits}
 use Rattle.base.specs.Answers.{given}
 use Rattle.names.specs.Names.{resolved}
 use Rattle.names.proofs.Resolved.{resolved-well}
-use Rattle.instruction.specs.Endings.{budget-spent, stack-full, bad-code}
+use Rattle.endings.specs.Endings.{budget-spent, stack-full, bad-code}
 use Rattle.instruction.specs.Instructions.{numbers}
 use Rattle.machine.specs.Machine.{Report, whole-run, report}
 use Rattle.meaning.specs.Cost.{Costs, Costs-more-than}

@@ -10,7 +10,7 @@ use lib.IntN.{pos}
 use lib.ListN.{length, getD, drop, length-append, drop-of-length-le}
 use lib.Seq.{drop-cons, drop-drop, getD-drop}
 use mir.Val.{boolByte}
-use Rattle.instruction.specs.Numbers.{decimal}
+use Rattle.numbers.specs.Numbers.{decimal}
 use Rattle.lines.specs.Forms.{filled}
 
 pub bit : (t : Bool) → boolByte t ≤ 1

@@ -9,8 +9,8 @@ use lib.ListN.{length, length-append}
 use mir.Syntax.{w32}
 use mir.Val.{SFits}
 use Rattle.base.specs.Bytes.{bytes, bytes-from}
-use Rattle.instruction.specs.Numbers.{decimal}
-use Rattle.instruction.proofs.Digits.{few-digits}
+use Rattle.numbers.specs.Numbers.{decimal}
+use Rattle.numbers.proofs.Digits.{few-digits}
 use Rattle.base.specs.declared.Refusal.{Refusal}
 use Rattle.base.specs.declared.Refusal.the-variants.{TooLong, NoLexeme, TooLarge, NoProgram, TooDeep, Undeclared, TooManyDeclared, TooMuchCode}
 use Rattle.base.specs.Answers.{number}

@@ -6,7 +6,7 @@ use Prim.Native.Char.{code}
 use lib.Dec.{eqb}
 use lib.IntN.{pos}
 use lib.ListN.{getD, drop}
-use Rattle.instruction.specs.Numbers.{decimal}
+use Rattle.numbers.specs.Numbers.{decimal}
 
 unfoldable pub filled : List ℕ → List ℕ → List ℕ
 filled [] ns = []

@@ -6,7 +6,7 @@ use lib.ListN.{length, getD}
 use Rattle.base.specs.declared.Refusal.{Refusal}
 use Rattle.base.specs.Answers.{number}
 use Rattle.base.specs.Bytes.{bytes}
-use Rattle.instruction.specs.Numbers.{decimal}
+use Rattle.numbers.specs.Numbers.{decimal}
 use Rattle.lines.specs.Forms.{filled}
 
 abbrev pub line-end : List ℕ

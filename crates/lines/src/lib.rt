@@ -6,14 +6,14 @@ ghost use Prim.Native.Nat.{_≤_, _<_, _+_, _*_, _/_};
 ghost use lib.Dec.{eqb};
 ghost use lib.IntN.{pos};
 ghost use lib.ListN.{length, getD};
-ghost use Rattle.instruction.specs.Numbers.{decimal};
+ghost use Rattle.numbers.specs.Numbers.{decimal};
 ghost use Rattle.lines.specs.Added.{Added};
 ghost use Rattle.lines.specs.Forms.{filled};
 ghost use Rattle.lines.specs.Lines.{refused-line, ending-line, accepted-line, instruction-line, table-lines};
 use base::Refusal;
 use base::smaller;
-use instruction::decimal::put_decimal;
-use instruction::decimal::put_digits;
+use numbers::decimal::put_decimal;
+use numbers::decimal::put_digits;
 
 pub fn put_byte(page: &mut [u8], at: usize, b: u8) -> usize
     ensures { λ r. ⌜ Added (b ∷ []) (now (page .entry)) at (now (page .exit)) r ⌝ }

@@ -11,8 +11,8 @@ use lib.IntN.{ℤ, pos}
 use lib.ListN.{length, getD, take}
 use lib.Seq.{length-take-le, getD-take}
 use borrow.Author.Tests.{lt-ltb, le-ltb, ltb-true, ltb-false, leb-true, leb-false}
-use Rattle.instruction.specs.Endings.{no-reading-left, stack-full, bad-code}
-use Rattle.instruction.specs.Numbers.{Two-sided, is-false}
+use Rattle.endings.specs.Endings.{no-reading-left, stack-full, bad-code}
+use Rattle.numbers.specs.Numbers.{Two-sided, is-false}
 use Rattle.instruction.specs.Instructions.{Instruction, push-int, load-stack, store-stack, jump, jump-if-false, two-sided, negate, not, read, takes, gives, effect}
 use Rattle.moves.specs.inner.Moves.{moves-to, push-int-move, load-stack-move, store-stack-move, jump-move, jump-if-false-move, two-sided-move, negate-move, not-move, read-move}
 use Rattle.moves.specs.declared.State.{State}

@@ -6,7 +6,7 @@ use lib.IntN.{ℤ}
 use lib.ListN.{length, take, take-append-drop}
 use lib.Seq.{length-take-le}
 use borrow.Author.Tests.{eq-eqb, ne-eqb}
-use Rattle.instruction.specs.Endings.{bad-code}
+use Rattle.endings.specs.Endings.{bad-code}
 use Rattle.machine.specs.Machine.{Lent, Machine, fresh, go, stop, step, Stopped, run, end-of, Report, report, whole-run, room-after}
 use Rattle.machine.specs.declared.Report as Code
 use Rattle.moves.specs.declared.State.{State}

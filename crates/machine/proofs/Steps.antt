@@ -10,12 +10,12 @@ use native.Mathlib.Omega.{arith}
 use lib.IntN.{ℤ, pos}
 use lib.ListN.{length, getD, set, length-set, getElem?}
 use borrow.Author.Tests.{lt-ltb, le-ltb}
-use Rattle.instruction.specs.Endings.{stack-full, bad-code}
+use Rattle.endings.specs.Endings.{stack-full, bad-code}
 use Rattle.rooms.specs.inner.Rooms.{said}
 use Rattle.instruction.specs.inner.Coded.{as-instruction}
 use Rattle.instruction.specs.declared.decode.Op.{Op}
 use Rattle.instruction.specs.declared.decode.Op.the-variants.{PrintStr}
-use Rattle.instruction.specs.Numbers.{Result, value, ends}
+use Rattle.numbers.specs.Numbers.{Result, value, ends}
 use Rattle.instruction.specs.Instructions.{Instruction, halt, push-int, load-stack, decode, takes, gives, effect}
 use Rattle.machine.specs.Machine.{Lent, Machine, string, closed, go, stop, pushed, jumped, resulting, names-well, prints, does, pairs, tried, decoded, fetched, step}
 use Rattle.moves.specs.inner.Moves.{moves-to, pushes, puts}

@@ -5,7 +5,7 @@ use Prim.Native.Nat.{ℕ, _-_, _≤_, _<_}
 use lib.IntN.{pos}
 use lib.ListN.{length, getD, drop}
 use borrow.Author.Tests.{lt-ltb, le-ltb}
-use Rattle.instruction.specs.Endings.{stack-full, bad-code}
+use Rattle.endings.specs.Endings.{stack-full, bad-code}
 use Rattle.instruction.specs.Instructions.{Instruction, takes, gives}
 use Rattle.machine.specs.Machine.{Lent, Machine, stop, names-well, does, tried}
 

@@ -8,8 +8,8 @@ use lib.IntN.{ℤ, pos, negℤ}
 use lib.ListN.{length, getD, getElem?, drop, replicate}
 use Rattle.base.specs.Bytes.{no-quote}
 use Rattle.base.specs.Bytes as B
-use Rattle.instruction.specs.Endings.{budget-spent, no-reading-left, stack-full, print-does-not-fit, bad-code}
-use Rattle.instruction.specs.Numbers.{Result, value, ends, in-range, is-false, calculate, negation, decimal}
+use Rattle.endings.specs.Endings.{budget-spent, no-reading-left, stack-full, print-does-not-fit, bad-code}
+use Rattle.numbers.specs.Numbers.{Result, value, ends, in-range, is-false, calculate, negation, decimal}
 use Rattle.instruction.specs.Instructions.{Instruction, halt, push-int, load-stack, store-stack, jump, jump-if-false, two-sided, negate, not, read, print-int, print-str, print-str-ln, decode, takes, gives}
 
 -- what a run is lent: the text, the code table, the readings, and the sizes of its stack and of its output room

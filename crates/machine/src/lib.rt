@@ -3,7 +3,6 @@ ghost use mathlib.Core.Path.{_≡_};
 ghost use Rattle.machine.specs.Machine.{whole-run};
 ghost use Rattle.machine.specs.inner.Coded.{reports};
 ghost use Rattle.machine.specs.Promise.{lends, Reported, Ran};
-use instruction::endings;
 use moves::Move;
 use moves::State;
 

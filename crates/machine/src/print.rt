@@ -6,15 +6,14 @@ ghost use lib.IntN.{ℤ};
 ghost use lib.ListN.{take};
 ghost use Rattle.rooms.specs.inner.Rooms.{said};
 ghost use Rattle.machine.specs.Machine.{Lent, Machine, stop, tried, prints, string, closed};
-ghost use Rattle.instruction.specs.Endings.{bad-code};
+ghost use Rattle.endings.specs.Endings.{bad-code};
 ghost use Rattle.instruction.specs.Instructions.{print-int};
 ghost use Rattle.machine.specs.inner.Coded.{Prints, Stepped};
 use base::Such;
-use instruction::decimal::put_decimal;
-use instruction::endings;
 use moves::Move;
 use moves::State;
 use moves::moved;
+use numbers::decimal::put_decimal;
 use rooms::Printed;
 
 // Bytes, with a line feed after them if it is asked for.

@@ -10,7 +10,6 @@ ghost use Rattle.instruction.specs.inner.Coded.{as-instruction};
 use super::print;
 use instruction::decode::Op;
 use instruction::decode::decode;
-use instruction::endings;
 use moves::Move;
 use moves::State;
 

@@ -10,8 +10,8 @@ use lib.IntN.{ℤ, pos}
 use lib.ListN.{length}
 use Rattle.sentence.specs.Sentences.{plus, minus, Kind, Sen, factor, term, expression, condition, command, commands, literal, variable, bracket, first, multiply, unsigned, signed, add, negated, compare, print, print-line, print-string, declare, input, assign, error, while, when, block, single, then}
 use Rattle.sentence.proofs.Parts.{Each}
-use Rattle.instruction.specs.Endings.{stopped-by-ERROR}
-use Rattle.instruction.specs.Numbers.{Two-sided, calculate}
+use Rattle.endings.specs.Endings.{stopped-by-ERROR}
+use Rattle.numbers.specs.Numbers.{Two-sided, calculate}
 use Rattle.instruction.specs.Instructions.{two-sided, jump, jump-if-false}
 use Rattle.machine.specs.Machine.{Lent, pairs, fetched}
 use Rattle.meaning.specs.Layout.{of-mul, of-sign, of-rel, code, need}

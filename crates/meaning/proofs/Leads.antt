@@ -9,8 +9,8 @@ use native.Mathlib.Omega.{arith}
 use lib.IntN.{ℤ, pos, negℤ}
 use lib.ListN.{length, getD, drop}
 use borrow.Author.Tests.{lt-ltb}
-use Rattle.instruction.specs.Endings.{no-reading-left, print-does-not-fit}
-use Rattle.instruction.specs.Numbers.{Result, value, ends, Two-sided, in-range, calculate, is-false, negation, decimal}
+use Rattle.endings.specs.Endings.{no-reading-left, print-does-not-fit}
+use Rattle.numbers.specs.Numbers.{Result, value, ends, Two-sided, in-range, calculate, is-false, negation, decimal}
 use Rattle.instruction.specs.Instructions.{Instruction, halt, push-int, load-stack, store-stack, jump, jump-if-false, two-sided, negate, not, read, print-int, print-str, print-str-ln, takes, gives, effect}
 use Rattle.machine.specs.Machine.{Lent, Outside, Machine, string, closed, reading, one-used, printed, Step, go, stop, pushed, left-with, jumped, resulting, taken, written, pairs, names-well, prints, does, tried, decoded, fetched, step, run, End, end-of}
 use Rattle.machine.proofs.Tried.{works}

@@ -7,7 +7,7 @@ use native.Mathlib.Omega.{arith}
 use lib.IntN.{ℤ, pos}
 use lib.ListN.{replicate, length-replicate}
 use Rattle.sentence.specs.Sentences.{Sen, command}
-use Rattle.instruction.specs.Endings.{normal}
+use Rattle.endings.specs.Endings.{normal}
 use Rattle.instruction.specs.Instructions.{halt, push-int, numbers, effect}
 use Rattle.machine.specs.Machine.{Lent, untouched, fresh, pushed, pairs, names-well, does, run, End, end-of, report, whole-run}
 use Rattle.machine.proofs.Tried.{works}

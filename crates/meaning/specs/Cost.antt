@@ -5,7 +5,7 @@ use mathlib.Core.List.{List}
 use Prim.Native.Nat.{ℕ, _+_, _<_}
 use lib.IntN.{ℤ}
 use Rattle.sentence.specs.Sentences.{Sen, command}
-use Rattle.instruction.specs.Endings.{budget-spent}
+use Rattle.endings.specs.Endings.{budget-spent}
 use Rattle.meaning.specs.Meaning.{meaning}
 
 module _ (readings : List ℤ) (room cells : ℕ) (m : Sen ℕ command) where

@@ -5,7 +5,7 @@ use lib.IntN.{pos}
 use lib.ListN.{length, replicate}
 use Rattle.sentence.specs.Sentences as S
 use Rattle.sentence.specs.Sentences.{Sign, Mul, Rel, Kind, Sen, command, literal, variable, bracket, first, multiply, unsigned, signed, add, negated, compare, print, print-line, print-string, declare, input, assign, error, while, when, block, single, then}
-use Rattle.instruction.specs.Numbers.{Two-sided, plus, minus, times, divide, equals, smaller, greater}
+use Rattle.numbers.specs.Numbers.{Two-sided, plus, minus, times, divide, equals, smaller, greater}
 use Rattle.instruction.specs.Instructions.{Instruction, halt, push-int, load-stack, store-stack, jump, jump-if-false, two-sided, negate, not, read, print-int, print-str, print-str-ln}
 
 -- ---- operators and relations

@@ -3,14 +3,13 @@
 // `live` is the live cells, as many as the depth, for those that read one; `cells` is how many the stack has, and `size` the table's length.
 ghost use mathlib.Core.Path.{_≡_};
 ghost use Prim.Native.Nat.{_+_, _^_, _<_};
-ghost use Rattle.instruction.specs.inner.Coded.{as-result, as-two-sided};
+ghost use Rattle.numbers.specs.inner.Coded.{as-result, as-two-sided};
 ghost use Rattle.moves.specs.inner.Moves.{moves-to, pushes, puts, push-int-move, load-stack-move, store-stack-move, jump-move, jump-if-false-move, two-sided-move, negate-move, not-move, read-move};
-use instruction::arith::Calculated;
-use instruction::arith::Operator;
-use instruction::arith::calculate;
-use instruction::arith::negated;
-use instruction::arith::truth;
-use instruction::endings;
+use numbers::arith::Calculated;
+use numbers::arith::Operator;
+use numbers::arith::calculate;
+use numbers::arith::negated;
+use numbers::arith::truth;
 
 // The machine between two instructions: the index of the next pair in the table, the stack's depth, the readings used, the bytes printed.
 pub struct State {

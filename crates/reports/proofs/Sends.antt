@@ -5,7 +5,7 @@ use mathlib.Core.Bool.{and-false}
 use Prim.Native.Nat.{ℕ, _≤_, _<_}
 use borrow.Author.Tests.{eq-eqb, ne-eqb, le-leb, lt-leb}
 use lib.ListN.{length, take}
-use Rattle.instruction.specs.Endings.{normal}
+use Rattle.endings.specs.Endings.{normal}
 use Rattle.reports.specs.Reports.{sendable}
 
 module _ (ending size : ℕ) (out : List ℕ) where

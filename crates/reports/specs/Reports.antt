@@ -5,7 +5,7 @@ use Prim.Native.Nat.{ℕ}
 use lib.Dec.{eqb, leb}
 use lib.ListN.{length, take}
 use Rattle.base.specs.Answers.{number}
-use Rattle.instruction.specs.Endings.{normal}
+use Rattle.endings.specs.Endings.{normal}
 use Rattle.machine.specs.declared.Report.{Report}
 use Rattle.tables.specs.declared.Answer.{Answer}
 use Rattle.tables.specs.declared.Answer.the-variants as answer

@@ -8,7 +8,7 @@ use lib.ListN.{length, take}
 use Rattle.base.specs.declared.Refusal.{Refusal}
 use Rattle.base.specs.Answers as A
 use Rattle.base.specs.Answers.{given, refused}
-use Rattle.instruction.specs.Endings.{normal}
+use Rattle.endings.specs.Endings.{normal}
 use Rattle.machine.specs.Machine.{Report}
 use Rattle.tables.specs.declared.Answer.{Answer}
 use Rattle.tables.specs.declared.Answer.the-variants.{Accepted, Refused}

@@ -7,7 +7,7 @@ use Rattle.lexeme.specs.Lexemes as Lexemes
 use Rattle.sentence.specs.Sentences as Sentences
 use Rattle.sentence.proofs.Reader as Reader
 use Rattle.names.specs.Names as Names
-use Rattle.instruction.specs.Numbers as Numbers
+use Rattle.numbers.specs.Numbers as Numbers
 use Rattle.instruction.specs.Instructions as Instructions
 use Rattle.machine.specs.Machine as Machine
 use Rattle.meaning.specs.Layout as Layout

@@ -21,7 +21,7 @@ use Rattle.lexeme.specs.declared.Found.the-variants as reply
 use Rattle.names.specs.declared.Cell.{Cell}
 use Rattle.names.specs.declared.Cell.the-variants.{At, Nowhere}
 use Rattle.names.specs.inner.Held.{counts, room, visible-in, latest}
-use Rattle.instruction.specs.Numbers.{plus, minus, times, divide, equals, smaller, greater}
+use Rattle.numbers.specs.Numbers.{plus, minus, times, divide, equals, smaller, greater}
 use Rattle.instruction.specs.Instructions.{jump, print-str, print-str-ln, number, encode, opcode}
 use Rattle.compiler.specs.declared.walk.Walk.{Walk}
 use Rattle.compiler.specs.declared.walk.Gives.{Gives}

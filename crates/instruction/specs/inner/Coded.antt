@@ -1,27 +1,10 @@
--- How the code holds results and instructions: what each of its values means in the definitions.
+-- How the code holds instructions: what each of its values means in the definitions.
 use mathlib.Core.Bool.{true, false}
 use mathlib.Core.Option.{Option, none, some}
-use Rattle.instruction.specs.Numbers.{Result, value, ends, Two-sided, plus, minus, times, divide, equals, smaller, greater}
+use Rattle.numbers.specs.inner.Coded.{as-two-sided}
 use Rattle.instruction.specs.Instructions.{Instruction, halt, push-int, load-stack, store-stack, jump, jump-if-false, two-sided, negate, not, read, print-int, print-str, print-str-ln}
-use Rattle.instruction.specs.declared.arith.Calculated.{Calculated}
-use Rattle.instruction.specs.declared.arith.Calculated.the-variants.{Value, Ends}
-use Rattle.instruction.specs.declared.arith.Operator.{Operator}
-use Rattle.instruction.specs.declared.arith.Operator.the-variants.{Plus, Minus, Times, Divide, Equals, Smaller, Greater}
 use Rattle.instruction.specs.declared.decode.Op.{Op}
 use Rattle.instruction.specs.declared.decode.Op.the-variants.{Bad, Halt, PushInt, LoadStack, StoreStack, Jump, JumpIfFalse, TwoSided, Negate, Not, Read, PrintInt, PrintStr}
-
-abbrev pub as-result : Calculated → Result
-as-result (Value v) = value v
-as-result (Ends e) = ends e
-
-abbrev pub as-two-sided : Operator → Two-sided
-as-two-sided Plus = plus
-as-two-sided Minus = minus
-as-two-sided Times = times
-as-two-sided Divide = divide
-as-two-sided Equals = equals
-as-two-sided Smaller = smaller
-as-two-sided Greater = greater
 
 abbrev pub as-instruction : Op → Option Instruction
 as-instruction Bad = none

@@ -1,7 +1,7 @@
 -- `lines::put_natural` meets its contract. Assumes nothing.
 use native.Mathlib.Omega.{arith}
 use borrow.Author.Needs.{needs}
-use Rattle.instruction.proofs.Buffers.{buffer-size, end-part}
+use Rattle.numbers.proofs.Buffers.{buffer-size, end-part}
 use Rattle.lines.proofs.put_natural.Statement.{statement}
 use Rattle.lines.proofs.put_natural.Tie as tie
 

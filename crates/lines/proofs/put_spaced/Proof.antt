@@ -5,9 +5,9 @@ use borrow.Author.Needs.{needs}
 use mir.Facts.{toZ-ofZ}
 use lib.ListN.{replicate, set}
 use Prim.Native.Nat.{ℕ, _-_}
-use Rattle.instruction.specs.Numbers.{decimal}
-use Rattle.instruction.specs.inner.Buffers.{At-the-end}
-use Rattle.instruction.proofs.Buffers.{buffer-size, end-part, one-before}
+use Rattle.numbers.specs.Numbers.{decimal}
+use Rattle.numbers.specs.inner.Buffers.{At-the-end}
+use Rattle.numbers.proofs.Buffers.{buffer-size, end-part, one-before}
 use Rattle.lines.proofs.Short.{short-integer}
 use Rattle.lines.proofs.put_spaced.Statement.{statement}
 use Rattle.lines.proofs.put_spaced.Tie as tie

@@ -1,6 +1,6 @@
 -- `natural` meets its contract, which only asks that it is safe. Assumes nothing.
 use mir.Facts.{toZ-ofZ, fits-natAbs}
-use Rattle.instruction.proofs.Signed.{not-below}
+use Rattle.numbers.proofs.Signed.{not-below}
 use borrow.Author.Needs.{needs}
 use Rattle.machine_test.proofs.natural.Statement.{statement}
 use Rattle.machine_test.proofs.natural.Tie as tie

@@ -1,6 +1,6 @@
 -- `jump_if_false` meets its contract. Assumes nothing.
 use borrow.Author.Tests.{lt-ltb, le-ltb, le-leb, lt-leb}
-use Rattle.instruction.proofs.Signed.{false-is, false-not}
+use Rattle.numbers.proofs.Signed.{false-is, false-not}
 use Rattle.moves.specs.inner.Moves.{jump-if-false-move}
 use borrow.Author.Needs.{needs}
 use Rattle.moves.proofs.jump_if_false.Statement.{statement}

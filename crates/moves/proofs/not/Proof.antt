@@ -2,8 +2,8 @@
 use borrow.Author.Tests.{lt-ltb, le-ltb}
 use mir.Syntax.{w32}
 use mir.Facts.{toZ-ofZ}
-use Rattle.instruction.specs.Numbers.{negation}
-use Rattle.instruction.proofs.Signed.{zero-test}
+use Rattle.numbers.specs.Numbers.{negation}
+use Rattle.numbers.proofs.Signed.{zero-test}
 use Rattle.moves.specs.inner.Moves.{not-move}
 use borrow.Author.Needs.{needs}
 use Rattle.moves.proofs.not.Statement.{statement}

@@ -7,8 +7,8 @@ use lib.IntN.{pos}
 use lib.ListN.{length, getD}
 use mir.Syntax.{w32}
 use mir.Facts.{toZ-ofZ}
-use Rattle.instruction.specs.Numbers.{calculate}
-use Rattle.instruction.specs.inner.Coded.{as-result, as-two-sided}
+use Rattle.numbers.specs.Numbers.{calculate}
+use Rattle.numbers.specs.inner.Coded.{as-result, as-two-sided}
 use Rattle.moves.specs.inner.Moves.{two-sided-move}
 use borrow.Author.Needs.{needs}
 use Rattle.moves.proofs.two_sided.Statement.{statement}

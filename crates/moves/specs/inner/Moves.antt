@@ -6,8 +6,8 @@ use Prim.Native.Nat.{ℕ, _+_, _-_, _*_, _/_}
 use lib.Dec.{leb, ltb}
 use lib.IntN.{ℤ, pos, negℤ}
 use lib.ListN.{length, getD}
-use Rattle.instruction.specs.Endings.{no-reading-left, stack-full, bad-code}
-use Rattle.instruction.specs.Numbers.{Result, value, ends, Two-sided, in-range, is-false, calculate, negation}
+use Rattle.endings.specs.Endings.{no-reading-left, stack-full, bad-code}
+use Rattle.numbers.specs.Numbers.{Result, value, ends, Two-sided, in-range, is-false, calculate, negation}
 use Rattle.moves.specs.declared.State.{State}
 use Rattle.moves.specs.declared.Move.{Move}
 use Rattle.moves.specs.declared.Move.the-variants.{Go, Put, Set, Stop}

@@ -1,5 +1,5 @@
 -- `decode::alone` meets its contract. Assumes nothing.
-use Rattle.instruction.proofs.Signed.{false-is, false-not}
+use Rattle.numbers.proofs.Signed.{false-is, false-not}
 use Rattle.instruction.proofs.decode.alone.Statement.{statement}
 use Rattle.instruction.proofs.decode.alone.Tie as tie
 

@@ -1,7 +1,7 @@
 -- `decode::halting` meets its contract. Assumes nothing.
 use lib.Dec.{lit<}
 use Rattle.instruction.specs.Instructions.{halting}
-use Rattle.instruction.proofs.Signed.{from-bits}
+use Rattle.numbers.proofs.Signed.{from-bits}
 use Rattle.instruction.proofs.Codes.{no-halting}
 use Rattle.instruction.proofs.decode.halting.Statement.{statement}
 use Rattle.instruction.proofs.decode.halting.Tie as tie

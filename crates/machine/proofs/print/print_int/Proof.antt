@@ -8,7 +8,7 @@ use mir.Syntax.{w32}
 use mir.Facts.{toZ-ofZ}
 use Rattle.rooms.specs.inner.Rooms.{said}
 use Rattle.instruction.specs.Instructions.{print-int, effect}
-use Rattle.instruction.proofs.Buffers.{buffer-size, end-part}
+use Rattle.numbers.proofs.Buffers.{buffer-size, end-part}
 use Rattle.machine.specs.Machine.{names-well, does, tried}
 use Rattle.machine.proofs.Moves.{count, top}
 use Rattle.machine.proofs.Steps.{stops, few, works, also}

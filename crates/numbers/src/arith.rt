@@ -2,9 +2,8 @@
 // difference and a product at 64 bits, where nothing is lost, and brought back by one test of the range.
 ghost use mathlib.Core.Path.{_≡_};
 ghost use lib.IntN.{negℤ, natAbs};
-ghost use Rattle.instruction.specs.Numbers.{in-range, calculate, truth, divide};
-ghost use Rattle.instruction.specs.inner.Coded.{as-result, as-two-sided};
-use super::endings;
+ghost use Rattle.numbers.specs.Numbers.{in-range, calculate, truth, divide};
+ghost use Rattle.numbers.specs.inner.Coded.{as-result, as-two-sided};
 
 // Its negation is the one that leaves the range.
 const SMALLEST: i32 = -2147483648;

@@ -1,7 +1,7 @@
 // The shortest decimal of a number, at the end of a buffer: it is written from its last digit, which comes first.
 ghost use lib.IntN.{pos};
-ghost use Rattle.instruction.specs.inner.Buffers.{At-the-end};
-ghost use Rattle.instruction.specs.Numbers.{decimal};
+ghost use Rattle.numbers.specs.inner.Buffers.{At-the-end};
+ghost use Rattle.numbers.specs.Numbers.{decimal};
 use super::arith::distance;
 
 // The digits of n, of which the largest has 20; the answer is the place of the first.

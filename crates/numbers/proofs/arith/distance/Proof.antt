@@ -5,10 +5,10 @@ use borrow.Author.Needs.{needs}
 use lib.IntN.{pos, negℤ, +ℤ-idl}
 use lib.Signed.{ltZ}
 use mir.Facts.{toZ-ofZ, fits-natAbs}
-use Rattle.instruction.proofs.Signed.{back, widens, wide-negate, not-below}
-use Rattle.instruction.proofs.Digits.{neg-nonNeg, neg-natAbs}
-use Rattle.instruction.proofs.arith.distance.Statement.{statement}
-use Rattle.instruction.proofs.arith.distance.Tie as tie
+use Rattle.numbers.proofs.Signed.{back, widens, wide-negate, not-below}
+use Rattle.numbers.proofs.Digits.{neg-nonNeg, neg-natAbs}
+use Rattle.numbers.proofs.arith.distance.Statement.{statement}
+use Rattle.numbers.proofs.arith.distance.Tie as tie
 
 below : (c : tie.Then1) → ltZ (c .before .args .v) (pos 0) ≡ true
 below c = rw (toZ-ofZ (c .before .fits .v)) at (c .if1 .taken)

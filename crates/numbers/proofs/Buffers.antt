@@ -5,8 +5,8 @@ use Prim.Native.Nat.{ℕ, suc, _+_, _-_, _/_, _%_, _^_, _≤_, _<_}
 use native.Mathlib.Omega.{arith}
 use lib.ListN.{length, replicate, take, drop, set, length-append, drop-of-length-le}
 use lib.Seq.{sets, sets-eq, length-sets, set-comm, drop-at, length-take-le, take-all}
-use Rattle.instruction.specs.inner.Buffers.{At-the-end}
-use Rattle.instruction.proofs.Digits.{all-digits, one-digit, more-digits, some-digits, few-digits}
+use Rattle.numbers.specs.inner.Buffers.{At-the-end}
+use Rattle.numbers.proofs.Digits.{all-digits, one-digit, more-digits, some-digits, few-digits}
 
 -- a byte set before others that are set already is set first
 set-before : (bs l : List ℕ) (i j v : ℕ) → i < j → set (sets l j bs) i v ≡ sets (set l i v) j bs

@@ -3,10 +3,10 @@
 use Prim.Native.Nat.{_≤_}
 use native.Mathlib.Omega.{arith}
 use denote.Ref.{now}
-use Rattle.instruction.specs.Numbers.{decimal}
-use Rattle.instruction.proofs.Buffers.{Written, none-written, one-left, digit-more, digit-last}
-use Rattle.instruction.proofs.decimal.put_digits.Statement.{statement}
-use Rattle.instruction.proofs.decimal.put_digits.Tie as tie
+use Rattle.numbers.specs.Numbers.{decimal}
+use Rattle.numbers.proofs.Buffers.{Written, none-written, one-left, digit-more, digit-last}
+use Rattle.numbers.proofs.decimal.put_digits.Statement.{statement}
+use Rattle.numbers.proofs.decimal.put_digits.Tie as tie
 
 abbrev Inv-loop : tie.InvT-loop
 Inv-loop n buffer₀ rest₀ at₀ buffer rest at = Written n rest at buffer₀ buffer × (at ≤ 20)

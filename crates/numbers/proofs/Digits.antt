@@ -10,8 +10,8 @@ use lib.IntN.{ℤ, pos, negsuc, negℤ, natAbs}
 use lib.Signed.{ltZ, nonNeg}
 use lib.ListN.{length, length-append}
 use borrow.Author.Tests.{ltb-true, ltb-false, lt-ltb, le-ltb}
-use Rattle.instruction.specs.Numbers.{digits, decimal}
-use Rattle.instruction.proofs.Signed.{no}
+use Rattle.numbers.specs.Numbers.{digits, decimal}
+use Rattle.numbers.proofs.Signed.{no}
 
 abbrev pub all-digits : ℕ → List ℕ
 all-digits n = digits (suc n) n

@@ -5,10 +5,10 @@ use lib.Signed.{quotZ}
 use mir.Facts.{toZ-ofZ}
 use mir.Syntax.{w32}
 use mir.Val.{SFits}
-use Rattle.instruction.specs.Numbers.{calculate}
-use Rattle.instruction.proofs.Signed.{false-is, false-not, bits-pos, minus-one-is, quot-minus-one, same-quot, in-range-is}
-use Rattle.instruction.proofs.arith.quotient.Statement.{statement}
-use Rattle.instruction.proofs.arith.quotient.Tie as tie
+use Rattle.numbers.specs.Numbers.{calculate}
+use Rattle.numbers.proofs.Signed.{false-is, false-not, bits-pos, minus-one-is, quot-minus-one, same-quot, in-range-is}
+use Rattle.numbers.proofs.arith.quotient.Statement.{statement}
+use Rattle.numbers.proofs.arith.quotient.Tie as tie
 
 returns : tie.Need-returns
 unfolding calculate

@@ -11,8 +11,8 @@ use mir.Syntax.{w32, w64}
 use mir.Val.{SFits, toZ, ofZ}
 use mir.Facts.{toZ-ofZ, sfits-widen}
 use borrow.Author.Tests.{ltb-true, ltb-false, lt-ltb, le-ltb, eq-eqb, ne-eqb, leb-true, leb-false}
-use Rattle.instruction.specs.Endings.{outside-range}
-use Rattle.instruction.specs.Numbers.{value, ends, in-range, is-false}
+use Rattle.endings.specs.Endings.{outside-range}
+use Rattle.numbers.specs.Numbers.{value, ends, in-range, is-false}
 
 -- ---- bits
 

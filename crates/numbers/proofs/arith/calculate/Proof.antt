@@ -3,10 +3,10 @@ use mathlib.Core.Path.{_∙_}
 use borrow.Author.Needs.{needs}
 use mir.Facts.{toZ-ofZ}
 use mir.Syntax.{w32}
-use Rattle.instruction.specs.Numbers.{calculate}
-use Rattle.instruction.proofs.Signed.{back, widens, same-bits, wide-add, wide-sub, wide-mul}
-use Rattle.instruction.proofs.arith.calculate.Statement.{statement}
-use Rattle.instruction.proofs.arith.calculate.Tie as tie
+use Rattle.numbers.specs.Numbers.{calculate}
+use Rattle.numbers.proofs.Signed.{back, widens, same-bits, wide-add, wide-sub, wide-mul}
+use Rattle.numbers.proofs.arith.calculate.Statement.{statement}
+use Rattle.numbers.proofs.arith.calculate.Tie as tie
 
 cast-x : tie.Need-cast-x
 cast-x c = widens (c .fits .a)

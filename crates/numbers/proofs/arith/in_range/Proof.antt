@@ -2,9 +2,9 @@
 use mir.Facts.{toZ-ofZ}
 use mir.Syntax.{w32}
 use mir.Val.{SFits}
-use Rattle.instruction.proofs.Signed.{too-low, too-high, inside, in-range-is}
-use Rattle.instruction.proofs.arith.in_range.Statement.{statement}
-use Rattle.instruction.proofs.arith.in_range.Tie as tie
+use Rattle.numbers.proofs.Signed.{too-low, too-high, inside, in-range-is}
+use Rattle.numbers.proofs.arith.in_range.Statement.{statement}
+use Rattle.numbers.proofs.arith.in_range.Tie as tie
 
 returns : tie.Need-returns
 returns c = too-low (c .before .args .z) (rw (toZ-ofZ (c .before .fits .z)) at (c .if1 .taken))

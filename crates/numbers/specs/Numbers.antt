@@ -5,7 +5,7 @@ use Prim.Native.Nat.{ℕ, zero, suc, _+_, _/_, _%_}
 use lib.Dec.{ltb, eqb}
 use lib.IntN.{ℤ, pos, negsuc, _+ℤ_, _-ℤ_, _*ℤ_}
 use lib.Signed.{mag, ltZ, leZ, quotZ}
-use Rattle.instruction.specs.Endings.{outside-range, division-by-0}
+use Rattle.endings.specs.Endings.{outside-range, division-by-0}
 
 -- a value, or the ending in its place
 pub data Result : Type 0 where

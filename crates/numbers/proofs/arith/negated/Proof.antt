@@ -3,10 +3,10 @@ use lib.IntN.{negℤ, +ℤ-idl}
 use mir.Facts.{toZ-ofZ}
 use mir.Syntax.{w32}
 use mir.Val.{SFits}
-use Rattle.instruction.specs.Numbers.{in-range}
-use Rattle.instruction.proofs.Signed.{smallest-is, same-negate, in-range-is}
-use Rattle.instruction.proofs.arith.negated.Statement.{statement}
-use Rattle.instruction.proofs.arith.negated.Tie as tie
+use Rattle.numbers.specs.Numbers.{in-range}
+use Rattle.numbers.proofs.Signed.{smallest-is, same-negate, in-range-is}
+use Rattle.numbers.proofs.arith.negated.Statement.{statement}
+use Rattle.numbers.proofs.arith.negated.Tie as tie
 
 returns : tie.Need-returns
 unfolding in-range

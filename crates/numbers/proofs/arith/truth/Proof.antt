@@ -1,7 +1,7 @@
 -- `arith::truth` meets its contract. Assumes nothing.
-use Rattle.instruction.specs.Numbers.{truth}
-use Rattle.instruction.proofs.arith.truth.Statement.{statement}
-use Rattle.instruction.proofs.arith.truth.Tie as tie
+use Rattle.numbers.specs.Numbers.{truth}
+use Rattle.numbers.proofs.arith.truth.Statement.{statement}
+use Rattle.numbers.proofs.arith.truth.Tie as tie
 
 returns : tie.Need-returns
 unfolding truth

@@ -5,11 +5,11 @@ use native.Mathlib.Omega.{arith}
 use borrow.Author.Needs.{needs}
 use lib.IntN.{natAbs}
 use mir.Facts.{toZ-ofZ}
-use Rattle.instruction.specs.Numbers.{decimal}
-use Rattle.instruction.proofs.Digits.{few-digits, decimal-below, decimal-above}
-use Rattle.instruction.proofs.Buffers.{one-before}
-use Rattle.instruction.proofs.decimal.put_decimal.Statement.{statement}
-use Rattle.instruction.proofs.decimal.put_decimal.Tie as tie
+use Rattle.numbers.specs.Numbers.{decimal}
+use Rattle.numbers.proofs.Digits.{few-digits, decimal-below, decimal-above}
+use Rattle.numbers.proofs.Buffers.{one-before}
+use Rattle.numbers.proofs.decimal.put_decimal.Statement.{statement}
+use Rattle.numbers.proofs.decimal.put_decimal.Tie as tie
 
 -- the distance, which was asked of the number read back from its bits
 dist : (c : tie.After-put-digits) → c .before .before .distance .result ≡ natAbs (c .before .before .before .args .v)

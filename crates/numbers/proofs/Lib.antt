@@ -1,0 +1,4 @@
+pub mod Buffers
+pub mod Digits
+pub mod Signed
+pub mod Unique
