@@ -7,7 +7,6 @@ use instruction::endings;
 use moves::Move;
 use moves::State;
 
-mod print;
 mod step;
 
 pub struct Report {

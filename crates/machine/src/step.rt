@@ -7,7 +7,6 @@ ghost use Prim.Native.Nat.{_%_, _≤_};
 ghost use Rattle.machine.specs.Machine as M;
 ghost use Rattle.machine.specs.inner.Coded.{Stepped};
 ghost use Rattle.instruction.specs.inner.Coded.{as-instruction};
-use super::print;
 use instruction::decode::Op;
 use instruction::decode::decode;
 use instruction::endings;
@@ -39,8 +38,8 @@ fn perform(
         Op::Negate => moves::negate(s, live),
         Op::Not => moves::not(s, live),
         Op::Read => moves::read(s, cells, readings),
-        Op::PrintInt => print::print_int(s, live, out),
-        Op::PrintStr(q, line) => print::print_str(s, text, q, line, out),
+        Op::PrintInt => prints::print_int(s, live, out),
+        Op::PrintStr(q, line) => prints::print_str(s, text, q, line, out),
     }
 }
 

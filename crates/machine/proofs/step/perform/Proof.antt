@@ -13,7 +13,8 @@ use Rattle.moves.specs.declared.State.{State}
 use Rattle.moves.specs.declared.Move.{Move}
 use Rattle.machine.specs.inner.Coded.{Did}
 use Rattle.machine.proofs.Moves.{pushes-int, loads-stack, stores-stack, jumps, jumps-if-false, operates, negates, nots, reads}
-use Rattle.machine.proofs.Steps.{stops, halts, says, also}
+use Rattle.machine.proofs.Prints.{prints-int, prints-str}
+use Rattle.machine.proofs.Steps.{stops, halts}
 use borrow.Author.Needs.{needs}
 use Rattle.machine.proofs.step.perform.Statement.{statement}
 use Rattle.machine.proofs.step.perform.Tie as tie
@@ -69,11 +70,11 @@ returns-11 c = λ lent stack t r n z w before g. told (c .before .enum-told4 .gi
 
 returns-12 : tie.Need-returns-12
 unfolding M.decoded
-returns-12 c = λ lent stack t r n z w before g. told (c .before .before .before .before .enum-told5 .given .1) (c .before .before .print-int .ensures lent stack w before g)
+returns-12 c = λ lent stack t r n z w before g. told (c .before .before .before .before .enum-told5 .given .1) (rw (c .before .before .print-int .ensures .answer, c .before .before .print-int .ensures .bytes, w) (prints-int g))
 
 returns-13 : tie.Need-returns-13
 unfolding M.decoded
-returns-13 c = λ lent stack t r n z w before g. told (c .before .before .before .before .before .o8 .given .1) (also (c .before .before .print-str .ensures lent _ before g) (rw t (says lent _ _ _)))
+returns-13 c = λ lent stack t r n z w before g. told (c .before .before .before .before .before .o8 .given .1) (rw (c .before .before .print-str .ensures .answer, c .before .before .print-str .ensures .bytes, t) (prints-str g _ _))
 
 pub perform-spec : {M : Type 1} → statement M
 perform-spec =
