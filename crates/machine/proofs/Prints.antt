@@ -68,7 +68,7 @@ module _ {lent : Lent} {before : List ℕ} {s : State} {cells : List ℤ} {room 
 
 module _ {lent : Lent} {before : List ℕ} {s : State} {cells : List ℤ} {room : List ℕ} (g : Good lent before s cells room) where
   -- what is asked for is what the rule says
-  abbrev So : Rule → Asked → Type 0
+  abbrev pub So : Rule → Asked → Type 0
   So rule a = Did lent before rule s cells room (print-move a room) (print-room a room)
 
   -- bad code is tested first
