@@ -24,7 +24,7 @@ use Rattle.machine.proofs.Cells.{live-first, live-second, poke-live}
 use Rattle.machine.proofs.Steps.{stops, goes, sets, does-push, does-put, few, misnamed, full, works, loads, jumps-to, also, no-more, one-more}
 
 -- the live cells as they are handed to an instruction, the lowest first
-abbrev held : State → List ℤ → List ℤ
+abbrev pub held : State → List ℤ → List ℤ
 held s cells = take (s .depth) cells
 
 module _ {lent : Lent} {before : List ℕ} {s : State} {cells : List ℤ} {room : List ℕ} (g : Good lent before s cells room) where

@@ -1,25 +1,22 @@
--- Laws of a string in the text, by where its closing quote was looked for. Assumes nothing.
+-- Laws of a string in the text, by where its closing quote is looked for. Assumes nothing.
 use mathlib.Core.Path.{_≡_}
 use mathlib.Core.List.{List}
 use mathlib.Core.Bool.{true, false}
-use Prim.Native.Nat.{ℕ, _+_, _-_, _≤_, _<_}
+use Prim.Native.Nat.{ℕ, _+_, _≤_, _<_}
 use native.Mathlib.Omega.{arith}
-use lib.ListN.{length, take, drop, length-drop}
+use lib.ListN.{length, drop, length-drop}
 use borrow.Author.Tests.{lt-ltb, le-ltb}
-use Rattle.base.specs.Bytes.{no-quote, run}
-use Rattle.base.proofs.Runs.{run-part}
 use Rattle.machine.specs.Machine.{string, closed}
 
--- e is the place of the next quote from q on, or the end where there is none
-module _ (text : List ℕ) (q e : ℕ) (run-ends : e ≡ q + length (run no-quote (drop q text))) where
-  pub not-closed : length text ≤ e → closed text q ≡ false
-  unfolding closed string
-  not-closed h = le-ltb (length (run no-quote (drop q text))) (length (drop q text)) (simp length-drop (omega arith))
+module _ (text : List ℕ) (q : ℕ) where
+  -- the place of the next quote from q on, or the end where there is none
+  abbrev pub quote : ℕ
+  quote = q + length (string text q)
 
-  pub is-closed : e < length text → closed text q ≡ true
-  unfolding closed string
-  is-closed h = lt-ltb (length (run no-quote (drop q text))) (length (drop q text)) (simp length-drop (omega arith))
+  pub not-closed : length text ≤ quote → closed text q ≡ false
+  unfolding closed
+  not-closed h = le-ltb (length (string text q)) (length (drop q text)) (simp length-drop (omega arith))
 
-  pub the-string : e < length text → take (e - q) (drop q text) ≡ string text q
-  unfolding string
-  the-string h = rw (run-part no-quote text q e run-ends)
+  pub is-closed : quote < length text → closed text q ≡ true
+  unfolding closed
+  is-closed h = lt-ltb (length (string text q)) (length (drop q text)) (simp length-drop (omega arith))

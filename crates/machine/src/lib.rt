@@ -6,7 +6,6 @@ ghost use Rattle.machine.specs.Promise.{lends, Reported, Ran};
 use moves::Move;
 use moves::State;
 
-mod print;
 mod step;
 
 pub struct Report {

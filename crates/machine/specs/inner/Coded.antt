@@ -64,10 +64,6 @@ pub record Did (lent : Lent) (before : List ℕ) (rule : Rule) (s : State) (cell
 abbrev pub Stepped : Lent → Rule → State → List ℤ → List ℕ → Move → List ℕ → Type 0
 Stepped lent rule s cells room r room′ = (before : List ℕ) → Good lent before s cells room → Did lent before rule s cells room r room′
 
--- whatever the stack: the rule only prints
-abbrev pub Prints : Lent → Rule → State → List ℕ → Move → List ℕ → Type 0
-Prints lent rule s room r room′ = (cells : List ℤ) → Stepped lent rule s cells room r room′
-
 -- ---- a report, of the state where a run ended
 
 abbrev pub reports : ℕ → ℕ → State → Report

@@ -1,6 +1,6 @@
 -- `step::step` meets its contract: what was decoded is what the rule does next. Assumes nothing.
-use mathlib.Core.Path.{_≡_, refl, sym, ap}
-use Prim.Native.Nat.{_/_, _%_, _≤_, _<_}
+use mathlib.Core.Path.{_≡_, sym}
+use Prim.Native.Nat.{_+_, _/_, _%_, _≤_, _<_}
 use native.Mathlib.Omega.{arith}
 use borrow.Author.Tests.{le-ltb}
 use denote.Ref.{now}
@@ -9,7 +9,10 @@ use lib.ListN.{length, getD}
 use lib.Seq.{length-take-le}
 use mir.Syntax.{w32}
 use mir.Facts.{toZ-ofZ}
+use Rattle.moves.specs.inner.Moves.{moves-to}
 use Rattle.machine.specs.Machine as M
+use Rattle.machine.specs.inner.Coded.{Good}
+use Rattle.machine.proofs.Performs.{performs}
 use Rattle.machine.proofs.Steps.{stops, also, fetches}
 use borrow.Author.Needs.{needs}
 use Rattle.machine.proofs.step.step.Statement.{statement}
@@ -32,7 +35,8 @@ returns-2 c = λ lent x e r before g.
     let decoded = rw (toZ-ofZ {w = w32} {z = getD (now (c .before .before .before .before .before .before .before .before .before .before .before .args .table)) i (pos 0)} (record { sfits = c .before .before .before .before .before .before .before .decode-arg .given }), toZ-ofZ {w = w32} (record { sfits = c .before .before .before .before .before .before .decode-arg2 .given }), e) at (c .before .before .before .before .before .decode .ensures) in
     let within : i < length (lent .table) = rw (← e) (c .before .before .before .before .before .before .before .before .if1 .left) in
     let even : length (lent .table) % 2 ≡ 0 = rw (← e) (c .before .before .before .before .before .before .before .before .before .before .before .pre .1 .1) in
-    also (c .before .before .perform .ensures lent (now (c .before .before .before .before .before .before .before .before .before .before .before .args .cells)) x r (ap length e) refl refl before (record { deep = g .deep; stack = g .stack; within = g .within; size = g .size; past = g .past; whole = omega (arith, g .whole) }))
+    let good : Good lent before (moves-to (c .before .before .before .before .before .before .before .before .before .before .before .args .t) (i + 2) (c .before .before .before .before .before .before .before .before .before .before .before .args .t .depth)) (now (c .before .before .before .before .before .before .before .before .before .before .before .args .cells)) (now (c .before .before .before .before .before .before .before .before .before .before .before .args .out)) = record { deep = g .deep; stack = g .stack; within = g .within; size = g .size; past = g .past; whole = omega (arith, g .whole) } in
+    also (performs good (c .before .before .before .before .before .decode .result) x e r (c .before .before .perform .ensures))
     (fetches lent (c .before .before .before .before .before .decode .result) (c .before .before .before .before .before .before .before .before .before .before .before .args .t) (now (c .before .before .before .before .before .before .before .before .before .before .before .args .cells)) (now (c .before .before .before .before .before .before .before .before .before .before .before .args .out)) (g .whole) within even decoded)
 
 pub step-spec : {M : Type 1} → statement M

@@ -1,14 +1,7 @@
-// The instructions that print. A print that does not fit the room prints nothing.
-ghost use mathlib.Core.Bool.{cond};
-ghost use mathlib.Core.Path.{_≡_};
-ghost use mathlib.Core.List.{List};
-ghost use lib.IntN.{ℤ};
-ghost use lib.ListN.{take};
+// The instructions that print, at a state that is past the instruction. A print that does not fit the room prints nothing.
+// `live` is the live cells, as many as the depth.
 ghost use Rattle.rooms.specs.inner.Rooms.{said};
-ghost use Rattle.machine.specs.Machine.{Lent, Machine, stop, tried, prints, string, closed};
-ghost use Rattle.endings.specs.Endings.{bad-code};
-ghost use Rattle.instruction.specs.Instructions.{print-int};
-ghost use Rattle.machine.specs.inner.Coded.{Prints, Stepped};
+ghost use Rattle.prints.specs.inner.Prints.{print, asked-str, asked-int, Leads};
 use base::Such;
 use moves::Move;
 use moves::State;
@@ -18,7 +11,7 @@ use rooms::Printed;
 
 // Bytes, with a line feed after them if it is asked for.
 fn write(s: State, bytes: &[u8], line: bool, out: &mut [u8]) -> Move
-    ensures { λ r. ⌜ ((lent : Lent) → Prints lent (prints lent (said line (now (bytes .entry)))) s (now (out .entry)) r (now (out .exit))) ⌝ }
+    ensures { λ r. ⌜ Leads (print s (said line (now (bytes .entry)))) (now (out .entry)) r (now (out .exit)) ⌝ }
 {
     match rooms::print(out, s.printed, bytes, line) {
         Printed::UpTo(end) => Move::Go(State {
@@ -32,7 +25,7 @@ fn write(s: State, bytes: &[u8], line: bool, out: &mut [u8]) -> Move
 }
 
 pub fn print_str(s: State, text: &[u8], q: usize, line: bool, out: &mut [u8]) -> Move
-    ensures { λ r. ⌜ ((lent : Lent) → Prints lent (λ (m : Machine). cond (closed (now (text .entry)) q) (prints lent (said line (string (now (text .entry)) q)) m) (stop bad-code)) s (now (out .entry)) r (now (out .exit))) ⌝ }
+    ensures { λ r. ⌜ Leads (asked-str s (now (text .entry)) q line) (now (out .entry)) r (now (out .exit)) ⌝ }
 {
     let end = base::run_end(text, q, Such::NoQuote);
     if text.len() <= end {
@@ -42,7 +35,7 @@ pub fn print_str(s: State, text: &[u8], q: usize, line: bool, out: &mut [u8]) ->
 }
 
 pub fn print_int(s: State, live: &[i32], out: &mut [u8]) -> Move
-    ensures { λ r. ⌜ ((lent : Lent) (cells : List ℤ) → now (live .entry) ≡ take (s .depth) cells → Stepped lent (tried lent print-int) s cells (now (out .entry)) r (now (out .exit))) ⌝ }
+    ensures { λ r. ⌜ Leads (asked-int s (now (live .entry))) (now (out .entry)) r (now (out .exit)) ⌝ }
 {
     let depth = live.len();
     if depth < 1 {
