@@ -8,7 +8,7 @@ use Rattle.limits.specs.Limits.{Limits}
 use Rattle.base.specs.Answers.{Answer, given, refused, number}
 use Rattle.base.specs.Bytes.{bytes}
 use Rattle.instruction.specs.Instructions.{numbers}
-use Rattle.machine.specs.Machine.{Report, whole-run}
+use Rattle.rules.specs.Machine.{Report, whole-run}
 use Rattle.compiler.specs.Compiled.{Accepted, code-of-text, need-of, Compiled, With-answer}
 use Rattle.kit.specs.Kit.{worked-out}
 

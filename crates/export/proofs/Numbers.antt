@@ -12,7 +12,7 @@ use lib.Seq.{take-at}
 use Rattle.endings.specs.Endings.{normal}
 use Rattle.base.specs.Answers as A
 use Rattle.base.specs.Answers.{given, refused}
-use Rattle.machine.specs.Machine.{Report, room-after}
+use Rattle.rules.specs.Machine.{Report, room-after}
 use Rattle.machine.specs.Promise.{Ran}
 use Rattle.machine.specs.declared.Report as Code
 use Rattle.tables.specs.declared.Answer.{Answer}

@@ -4,7 +4,7 @@ use mathlib.Core.List.{List}
 use Prim.Native.Nat.{ℕ}
 use lib.IntN.{ℤ}
 use Rattle.limits.specs.Limits.{Limits}
-use Rattle.machine.specs.Machine.{Report}
+use Rattle.rules.specs.Machine.{Report}
 use Rattle.compiler.specs.Compiled.{Compiled, With-answer}
 use Rattle.compiler.proofs.Judging.{one-compiled}
 use Rattle.compiler.proofs.Unique.{both}

@@ -8,7 +8,7 @@ use lib.IntN.{ℤ}
 use lib.ListN.{length}
 use Rattle.base.specs.Answers.{Answer, given, refused, number}
 use Rattle.endings.specs.Endings.{normal}
-use Rattle.machine.specs.Machine.{Report, room-after, stack-after}
+use Rattle.rules.specs.Machine.{Report, room-after, stack-after}
 use Rattle.compiler.specs.Compiled.{Accepted, code-of-text, need-of, table-after}
 use Rattle.kit.specs.Kit.{own-run, Faithful}
 

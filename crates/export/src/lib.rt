@@ -1,7 +1,7 @@
 // What C and Rust call. A slice passes as a pointer and a length (include/o.h).
 ghost use mathlib.Core.Path.{_≡_};
 ghost use lib.ListN.{length};
-ghost use Rattle.machine.specs.Machine.{whole-run};
+ghost use Rattle.rules.specs.Machine.{whole-run};
 ghost use Rattle.machine.specs.Promise.{lends};
 ghost use Rattle.limits.specs.Limits.{Sizes};
 ghost use Rattle.compiler.specs.Compiled.{Compiled, With-answer};

@@ -11,7 +11,7 @@ use Rattle.base.specs.declared.Refusal.{Refusal}
 use Rattle.base.specs.Answers.{given, refused}
 use Rattle.instruction.specs.Instructions.{numbers}
 use Rattle.instruction.proofs.Pairs.{length-numbers}
-use Rattle.machine.specs.Machine.{whole-run}
+use Rattle.rules.specs.Machine.{whole-run}
 use Rattle.machine.specs.Promise.{lends, Ran}
 use Rattle.machine.specs.declared.Report as Code
 use Rattle.tables.specs.Filled.{filled}

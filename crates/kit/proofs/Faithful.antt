@@ -10,7 +10,7 @@ use Rattle.names.specs.Names.{resolved}
 use Rattle.names.proofs.Resolved.{resolved-well}
 use Rattle.endings.specs.Endings.{budget-spent, stack-full, bad-code}
 use Rattle.instruction.specs.Instructions.{numbers}
-use Rattle.machine.specs.Machine.{Report, whole-run, report}
+use Rattle.rules.specs.Machine.{Report, whole-run, report}
 use Rattle.meaning.specs.Cost.{Costs, Costs-more-than}
 use Rattle.meaning.proofs.Fits.{Fits, In-text}
 use Rattle.meaning.proofs.Whole.{whole}

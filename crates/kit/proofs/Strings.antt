@@ -11,7 +11,7 @@ use Rattle.lexeme.proofs.Ahead.{lexemes-each}
 use Rattle.sentence.specs.Sentences.{Kind, Sen, command, spell, program, literal, variable, bracket, first, multiply, unsigned, signed, add, negated, compare, print, print-line, print-string, declare, input, assign, error, while, when, block, single, then}
 use Rattle.sentence.specs.Grammar.{Whole, whats}
 use Rattle.sentence.proofs.Parts.{Each}
-use Rattle.machine.specs.Machine as M
+use Rattle.rules.specs.Machine as M
 use Rattle.meaning.proofs.Fits.{In-text}
 
 module _ (text : List ℕ) where

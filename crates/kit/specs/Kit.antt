@@ -7,7 +7,7 @@ use lib.ListN.{length}
 use Rattle.base.specs.declared.Refusal.{Refusal}
 use Rattle.base.specs.Answers.{Answer, given, refused}
 use Rattle.instruction.specs.Instructions.{numbers}
-use Rattle.machine.specs.Machine.{Report, report, whole-run}
+use Rattle.rules.specs.Machine.{Report, report, whole-run}
 use Rattle.machine.specs.Promise as Promise
 use Rattle.machine.specs.Promise.{lends}
 use Rattle.machine.specs.declared.Report as Code

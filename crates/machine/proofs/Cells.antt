@@ -10,7 +10,7 @@ use lib.IntN.{ℤ, pos}
 use lib.ListN.{length, getD, drop, set}
 use lib.Seq.{getD-set-same, getD-set-other}
 use borrow.Author.Tests.{eqb-true, eqb-false}
-use Rattle.machine.specs.Machine.{peek, poke}
+use Rattle.rules.specs.Machine.{peek, poke}
 use Rattle.machine.specs.inner.Coded.{live}
 
 pub length-live : (d : ℕ) (cells : List ℤ) → length (live d cells) ≡ d

@@ -18,7 +18,7 @@ use Rattle.moves.specs.inner.Moves.{moves-to, push-int-move, load-stack-move, s
 use Rattle.moves.specs.declared.State.{State}
 use Rattle.moves.specs.declared.Move.{Move}
 use Rattle.moves.specs.declared.Move.the-variants.{Go, Stop}
-use Rattle.machine.specs.Machine.{Lent, pushed, left-with, taken, reading, one-used, pairs, names-well, does, tried}
+use Rattle.rules.specs.Machine.{Lent, pushed, left-with, taken, reading, one-used, pairs, names-well, does, tried}
 use Rattle.machine.specs.inner.Coded.{live, Good, Did}
 use Rattle.machine.proofs.Cells.{live-first, live-second, poke-live}
 use Rattle.machine.proofs.Steps.{stops, goes, sets, does-push, does-put, few, misnamed, full, works, loads, jumps-to, also, no-more, one-more}

@@ -11,7 +11,7 @@ use Rattle.moves.specs.declared.State.{State}
 use Rattle.moves.specs.declared.Move.{Move}
 use Rattle.prints.specs.inner.Prints.{print-move, print-room, Leads}
 use Rattle.perform.specs.inner.Asks.{asked}
-use Rattle.machine.specs.Machine.{Lent, decoded}
+use Rattle.rules.specs.Machine.{Lent, decoded}
 use Rattle.machine.specs.inner.Coded.{Good, Did}
 use Rattle.machine.proofs.Moves.{held, pushes-int, loads-stack, stores-stack, jumps, jumps-if-false, operates, negates, nots, reads}
 use Rattle.machine.proofs.Prints.{So, prints-int, prints-str}

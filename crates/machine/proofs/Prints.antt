@@ -19,11 +19,11 @@ use Rattle.moves.specs.inner.Moves.{moves-to}
 use Rattle.moves.specs.declared.State.{State}
 use Rattle.moves.specs.declared.Move.the-variants.{Go, Stop}
 use Rattle.prints.specs.inner.Prints.{Asked, silent, print, fits, print-move, print-room, asked-str, asked-int}
-use Rattle.machine.specs.Machine.{Lent, string, stop, printed, written, names-well, prints, does, tried, decoded}
+use Rattle.rules.specs.Machine.{Lent, string, stop, printed, written, names-well, prints, does, tried, decoded}
 use Rattle.machine.specs.inner.Coded.{machine-of, Rule, Good, Did}
 use Rattle.machine.proofs.Moves.{held, count, top}
 use Rattle.machine.proofs.Steps.{stops, few, works, says, also}
-use Rattle.machine.proofs.Strings.{quote, not-closed, is-closed}
+use Rattle.rules.proofs.Strings.{quote, not-closed, is-closed}
 
 module _ (room bs : List ℕ) (at : ℕ) (fit : at + length bs ≤ length room) where
   head : length (take at room ++ bs) ≡ at + length bs

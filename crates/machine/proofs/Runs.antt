@@ -1,26 +1,17 @@
 -- Laws of a run, at the place where the loop stands. Assumes nothing.
 use mathlib.Core.Path.{_≡_, refl, sym, _∙_}
 use mathlib.Core.List.{List}
-use Prim.Native.Nat.{ℕ, suc, _-_, _%_}
+use Prim.Native.Nat.{ℕ, _-_, _%_}
 use lib.IntN.{ℤ}
 use lib.ListN.{length, take, take-append-drop}
 use lib.Seq.{length-take-le}
-use borrow.Author.Tests.{eq-eqb, ne-eqb}
+use borrow.Author.Tests.{ne-eqb}
 use Rattle.endings.specs.Endings.{bad-code}
-use Rattle.machine.specs.Machine.{Lent, Machine, fresh, go, stop, step, Stopped, run, end-of, Report, report, whole-run, room-after}
+use Rattle.rules.specs.Machine.{Lent, Stopped, end-of, Report, report, whole-run, room-after}
 use Rattle.machine.specs.declared.Report as Code
 use Rattle.moves.specs.declared.State.{State}
 use Rattle.machine.specs.inner.Coded.{machine-of, Good, reports}
 use Rattle.machine.specs.Promise.{Reported, Ran}
-
-module _ (lent : Lent) (n : ℕ) (m : Machine) where
-  pub run-goes : {m′ : Machine} → go m′ ≡ step lent m → run lent (suc n) m ≡ run lent n m′
-  unfolding run
-  run-goes e = rw (← e, run)
-
-  pub run-stops : {e : ℕ} → stop e ≡ step lent m → run lent (suc n) m ≡ record { ending = e; left = n; machine = m }
-  unfolding run
-  run-stops e = rw (← e, run) refl
 
 -- the room is what was printed, and past it what it was
 pub room-is : {lent : Lent} {before : List ℕ} {s : State} {cells : List ℤ} {room : List ℕ} → Good lent before s cells room → room ≡ room-after (take (s .printed) room) before
@@ -38,15 +29,10 @@ reported {s = s} {room = room} g budget e left steps w p q = rw (← p) (record 
   room = room-is g;
 })
 
--- a table of odd length, and one of even length
-module _ (lent : Lent) (budget : ℕ) where
-  pub odd-table : (before : List ℕ) → (length (lent .table) % 2 ≡ 0 → ⊥) → Reported (whole-run lent budget) before (record { ending = bad-code; steps = 0; used = 0; length = 0 }) before
-  unfolding whole-run room-after
-  odd-table before h = rw (ne-eqb (length (lent .table) % 2) 0 h) (record { ending = refl; steps = refl; used = refl; size = refl; room = refl })
-
-  pub even-table : length (lent .table) % 2 ≡ 0 → whole-run lent budget ≡ report budget (end-of (run lent budget fresh))
-  unfolding whole-run
-  even-table h = rw (eq-eqb (length (lent .table) % 2) 0 h)
+-- a table of odd length
+pub odd-table : (lent : Lent) (budget : ℕ) (before : List ℕ) → (length (lent .table) % 2 ≡ 0 → ⊥) → Reported (whole-run lent budget) before (record { ending = bad-code; steps = 0; used = 0; length = 0 }) before
+unfolding whole-run room-after
+odd-table lent budget before h = rw (ne-eqb (length (lent .table) % 2) 0 h) (record { ending = refl; steps = refl; used = refl; size = refl; room = refl })
 
 -- any two results that meet the promise are the same
 pub one-reported : {w : Report} {before : List ℕ} {r r′ : Code.Report} {after after′ : List ℕ} → Reported w before r after → Reported w before r′ after′ → (r ≡ r′) × (after ≡ after′)

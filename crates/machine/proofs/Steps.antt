@@ -17,13 +17,13 @@ use Rattle.instruction.specs.declared.decode.Op.{Op}
 use Rattle.instruction.specs.declared.decode.Op.the-variants.{PrintStr}
 use Rattle.numbers.specs.Numbers.{Result, value, ends}
 use Rattle.instruction.specs.Instructions.{Instruction, halt, push-int, load-stack, decode, takes, gives, effect}
-use Rattle.machine.specs.Machine.{Lent, Machine, string, closed, go, stop, pushed, jumped, resulting, names-well, prints, does, pairs, tried, decoded, fetched, step}
+use Rattle.rules.specs.Machine.{Lent, Machine, string, closed, go, stop, pushed, jumped, resulting, names-well, prints, does, pairs, tried, decoded, fetched, step}
 use Rattle.moves.specs.inner.Moves.{moves-to, pushes, puts}
 use Rattle.moves.specs.declared.State.{State}
 use Rattle.moves.specs.declared.Move.{Move}
 use Rattle.moves.specs.declared.Move.the-variants.{Go, Set, Stop}
 use Rattle.machine.specs.inner.Coded.{live, outside, machine-of, Rule, Good, Did}
-use Rattle.machine.proofs.Tried as T
+use Rattle.rules.proofs.Tried as T
 use Rattle.machine.proofs.Cells.{length-live, live-push, live-drop, peek-live}
 
 module _ {lent : Lent} {before : List ℕ} {s : State} {cells : List ℤ} {room : List ℕ} (g : Good lent before s cells room) where

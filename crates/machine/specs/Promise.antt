@@ -4,7 +4,7 @@ use mathlib.Core.List.{List}
 use Prim.Native.Nat.{ℕ}
 use lib.IntN.{ℤ}
 use lib.ListN.{length}
-use Rattle.machine.specs.Machine.{Lent, Report, room-after, stack-after}
+use Rattle.rules.specs.Machine.{Lent, Report, room-after, stack-after}
 use Rattle.machine.specs.declared.Report as Code
 
 -- what is lent, by its contents

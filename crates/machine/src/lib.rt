@@ -1,6 +1,6 @@
 // The machine: any code table, one numbered ending.
 ghost use mathlib.Core.Path.{_≡_};
-ghost use Rattle.machine.specs.Machine.{whole-run};
+ghost use Rattle.rules.specs.Machine.{whole-run};
 ghost use Rattle.machine.specs.inner.Coded.{reports};
 ghost use Rattle.machine.specs.Promise.{lends, Reported, Ran};
 use moves::Move;

@@ -2,7 +2,7 @@
 ghost use mathlib.Core.Path.{_≡_};
 ghost use lib.ListN.{length};
 ghost use Prim.Native.Nat.{_%_, _≤_};
-ghost use Rattle.machine.specs.Machine as M;
+ghost use Rattle.rules.specs.Machine as M;
 ghost use Rattle.machine.specs.inner.Coded.{Stepped};
 use instruction::decode::decode;
 use moves::Move;

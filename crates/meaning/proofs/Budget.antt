@@ -8,7 +8,7 @@ use native.Mathlib.Omega.{arith}
 use lib.IntN.{ℤ}
 use Rattle.sentence.specs.Sentences.{Sen, command}
 use Rattle.endings.specs.Endings.{budget-spent, stack-full, bad-code}
-use Rattle.machine.specs.Machine.{End}
+use Rattle.rules.specs.Machine.{End}
 use Rattle.meaning.specs.Meaning.{ended, meaning}
 use Rattle.meaning.specs.Cost.{Costs, Costs-more-than}
 use Rattle.meaning.proofs.Later.{Later, end, late-end, never, later}

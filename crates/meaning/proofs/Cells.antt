@@ -8,7 +8,7 @@ use lib.Dec.{eqb}
 use lib.IntN.{ℤ}
 use lib.ListN.{length, length-append}
 use borrow.Author.Tests.{eqb-true, eqb-false, eq-eqb, ne-eqb}
-use Rattle.machine.specs.Machine.{peek, poke}
+use Rattle.rules.specs.Machine.{peek, poke}
 
 -- the first d variables, the last on top
 unfoldable pub cells : ℕ → (ℕ → ℤ) → List ℤ

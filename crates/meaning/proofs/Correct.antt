@@ -13,7 +13,7 @@ use Rattle.sentence.proofs.Parts.{Each}
 use Rattle.endings.specs.Endings.{stopped-by-ERROR}
 use Rattle.numbers.specs.Numbers.{Two-sided, calculate}
 use Rattle.instruction.specs.Instructions.{two-sided, jump, jump-if-false}
-use Rattle.machine.specs.Machine.{Lent, pairs, fetched}
+use Rattle.rules.specs.Machine.{Lent, pairs, fetched}
 use Rattle.meaning.specs.Layout.{of-mul, of-sign, of-rel, code, need}
 use Rattle.meaning.proofs.Sizes.{size}
 use Rattle.meaning.proofs.Fits.{Fits}

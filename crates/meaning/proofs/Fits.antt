@@ -6,7 +6,7 @@ use Prim.Native.Nat.{ℕ, _<_}
 use Rattle.lexeme.specs.Lexemes.{Quoted}
 use Rattle.sentence.specs.Sentences.{Kind, Sen}
 use Rattle.sentence.proofs.Parts.{Each}
-use Rattle.machine.specs.Machine.{string, closed}
+use Rattle.rules.specs.Machine.{string, closed}
 
 -- a string stands in the text at its place
 abbrev pub In-text : List ℕ → Quoted → Type 0

@@ -10,7 +10,7 @@ use lib.Dec.{lit<}
 use lib.ListN.{length, getElem?, replicate, length-append}
 use Rattle.sentence.specs.Sentences.{Sign, plus, minus, Mul, Rel, Kind, Sen, factor, term, expression, condition, command, commands, literal, variable, bracket, first, multiply, unsigned, signed, add, negated, compare, print, print-line, print-string, declare, input, assign, error, while, when, block, single, then}
 use Rattle.instruction.specs.Instructions.{Instruction, jump, jump-if-false, two-sided}
-use Rattle.machine.specs.Machine.{Lent, fetched}
+use Rattle.rules.specs.Machine.{Lent, fetched}
 use Rattle.instruction.proofs.Pairs.{Sound, All-sound}
 use Rattle.meaning.specs.Layout.{of-mul, of-sign, of-rel, code, program-code}
 use Rattle.meaning.proofs.Sizes.{size}

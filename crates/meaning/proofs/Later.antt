@@ -14,7 +14,7 @@ use Rattle.sentence.specs.Sentences as S
 use Rattle.sentence.specs.Sentences.{Kind, Sen, command, literal, variable, bracket, first, multiply, unsigned, signed, add, negated, compare, print, print-line, print-string, declare, input, assign, error, while, when, block, single, then}
 use Rattle.endings.specs.Endings.{normal, budget-spent, stack-full, bad-code, no-reading-left, print-does-not-fit, outside-range, division-by-0}
 use Rattle.numbers.specs.Numbers.{Two-sided, plus, minus, times, divide, equals, smaller, greater, Result, value, ends, in-range, is-false, calculate, negation, decimal}
-use Rattle.machine.specs.Machine.{Outside, reading, one-used, printed}
+use Rattle.rules.specs.Machine.{Outside, reading, one-used, printed}
 use Rattle.meaning.specs.Layout.{of-mul, of-sign, of-rel}
 use Rattle.meaning.specs.Meaning.{Store, Outcome, done, ended, Act, after, _>>=_, _>>_, give, end-with, unit, result, value-of, assigned, signed-value, rounds, next-reading, write, mean, declarations, program, meaning, start}
 

@@ -9,9 +9,9 @@ use lib.ListN.{replicate, length-replicate}
 use Rattle.sentence.specs.Sentences.{Sen, command}
 use Rattle.endings.specs.Endings.{normal}
 use Rattle.instruction.specs.Instructions.{halt, push-int, numbers, effect}
-use Rattle.machine.specs.Machine.{Lent, untouched, fresh, pushed, pairs, names-well, does, run, End, end-of, report, whole-run}
-use Rattle.machine.proofs.Tried.{works}
-use Rattle.machine.proofs.Pairs.{even, pairs-are, fetched-is}
+use Rattle.rules.specs.Machine.{Lent, untouched, fresh, pushed, pairs, names-well, does, run, End, end-of, report, whole-run}
+use Rattle.rules.proofs.Tried.{works}
+use Rattle.rules.proofs.Pairs.{even, pairs-are, fetched-is}
 use Rattle.meaning.specs.Layout.{program-code, program-need}
 use Rattle.meaning.proofs.Sizes.{size}
 use Rattle.meaning.proofs.Fits.{Fits}

@@ -8,7 +8,7 @@ use lib.IntN.{ℤ, pos, negℤ}
 use Rattle.sentence.specs.Sentences.{Sign, plus, minus, Kind, Sen, factor, term, expression, condition, command, commands, literal, variable, bracket, first, multiply, unsigned, signed, add, negated, compare, print, print-line, print-string, declare, input, assign, error, while, when, block, single, then}
 use Rattle.endings.specs.Endings.{normal, stopped-by-ERROR, budget-spent, no-reading-left, print-does-not-fit}
 use Rattle.numbers.specs.Numbers.{Result, value, ends, in-range, is-false, calculate, negation, decimal}
-use Rattle.machine.specs.Machine.{Outside, untouched, reading, one-used, printed, End}
+use Rattle.rules.specs.Machine.{Outside, untouched, reading, one-used, printed, End}
 use Rattle.meaning.specs.Layout.{of-mul, of-sign, of-rel}
 
 -- ---- what a sentence works on

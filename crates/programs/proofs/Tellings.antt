@@ -5,7 +5,7 @@ use Prim.Native.Nat.{ℕ}
 use lib.ListN.{length, take, drop}
 use lib.Seq.{take-at}
 use Rattle.base.specs.Answers.{Answer}
-use Rattle.machine.specs.Machine.{Report, room-after}
+use Rattle.rules.specs.Machine.{Report, room-after}
 use Rattle.reports.specs.declared.Came.{Came}
 use Rattle.tells.specs.Tells as T
 use Rattle.tells.specs.Writes.{Writes, with-output}

@@ -4,7 +4,7 @@ use mathlib.Core.List.{List}
 use Prim.Native.Nat.{ℕ}
 use Rattle.limits.specs.Limits.{Limits}
 use Rattle.base.specs.Answers.{Answer}
-use Rattle.machine.specs.Machine.{Report}
+use Rattle.rules.specs.Machine.{Report}
 use Rattle.machine.proofs.Runs.{one-reported}
 use Rattle.compiler.specs.Compiled.{Accepted, With-answer}
 use Rattle.compiler.proofs.Judging.{one-compiled}

@@ -5,7 +5,7 @@ use Prim.Native.Nat.{ℕ}
 use Rattle.limits.specs.Limits.{Sizes}
 use Rattle.base.specs.declared.Refusal.{Refusal}
 use Rattle.base.specs.Answers.{Answer, given, refused}
-use Rattle.machine.specs.Machine.{Report, room-after}
+use Rattle.rules.specs.Machine.{Report, room-after}
 use Rattle.machine.specs.Promise.{Reported}
 use Rattle.machine.specs.declared.Report as Code
 use Rattle.reports.specs.declared.Came.{Came}

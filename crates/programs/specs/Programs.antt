@@ -6,7 +6,7 @@ use lib.ListN.{length}
 use Rattle.limits.specs.Limits.{Limits}
 use Rattle.base.specs.Answers.{Answer, given, refused, pass}
 use Rattle.instruction.specs.Instructions.{numbers}
-use Rattle.machine.specs.Machine.{Report}
+use Rattle.rules.specs.Machine.{Report}
 use Rattle.compiler.specs.Compiled.{Accepted, code-of-text, need-of, Compiled}
 use Rattle.kit.specs.Kit.{worked-out}
 use Rattle.tells.specs.Tells.{Said, listing, refusal}

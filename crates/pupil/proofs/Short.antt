@@ -8,7 +8,7 @@ use lib.ListN.{length, take, drop, length-append, length-take, length-drop}
 use Rattle.base.specs.declared.Refusal.{Refusal}
 use Rattle.base.specs.Answers.{number}
 use Rattle.base.specs.Bytes.{bytes, bytes-from}
-use Rattle.machine.specs.Machine.{Report}
+use Rattle.rules.specs.Machine.{Report}
 use Rattle.lines.specs.Forms.{filled}
 use Rattle.lines.proofs.Short.{Small, small-number, short-filled}
 use Rattle.place.specs.Places.{line-feed, begins, within, line-start, before, spot, spot-at}

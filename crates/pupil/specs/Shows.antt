@@ -8,7 +8,7 @@ use Rattle.base.specs.declared.Refusal.{Refusal}
 use Rattle.base.specs.declared.Refusal.the-variants.{TooLong, NoLexeme, TooLarge, NoProgram, TooDeep, Undeclared, TooManyDeclared, TooMuchCode}
 use Rattle.base.specs.Answers.{Answer, given, refused, number}
 use Rattle.base.specs.Bytes.{bytes}
-use Rattle.machine.specs.Machine.{Report}
+use Rattle.rules.specs.Machine.{Report}
 use Rattle.lines.specs.Forms.{filled}
 use Rattle.lines.specs.Lines.{line-end}
 use Rattle.place.specs.Places.{spot}

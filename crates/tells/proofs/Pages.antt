@@ -5,7 +5,7 @@ use Prim.Native.Nat.{ℕ, _+_, _≤_}
 use native.Mathlib.Omega.{arith}
 use lib.ListN.{length, take, drop, length-append, length-take}
 use lib.Seq.{sets-eq}
-use Rattle.machine.specs.Machine.{room-after}
+use Rattle.rules.specs.Machine.{room-after}
 use Rattle.lines.specs.Added.{Added}
 use Rattle.tells.specs.Tells as T
 use Rattle.tells.specs.Writes.{Writes}

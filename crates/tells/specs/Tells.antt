@@ -9,7 +9,7 @@ use Rattle.base.specs.declared.Refusal.{Refusal}
 use Rattle.base.specs.Answers as A
 use Rattle.base.specs.Answers.{given, refused}
 use Rattle.endings.specs.Endings.{normal}
-use Rattle.machine.specs.Machine.{Report}
+use Rattle.rules.specs.Machine.{Report}
 use Rattle.tables.specs.declared.Answer.{Answer}
 use Rattle.tables.specs.declared.Answer.the-variants.{Accepted, Refused}
 use Rattle.reports.specs.Reports.{sendable}

@@ -4,7 +4,7 @@ use mathlib.Core.List.{List}
 use Prim.Native.Nat.{ℕ}
 use lib.ListN.{length, take}
 use Rattle.base.specs.Answers.{Answer, given, refused}
-use Rattle.machine.specs.Machine.{Report, room-after}
+use Rattle.rules.specs.Machine.{Report, room-after}
 use Rattle.reports.specs.declared.Came.{Came}
 use Rattle.reports.specs.declared.Came.the-variants.{Ran, Refused}
 use Rattle.tells.specs.Tells as T

@@ -9,7 +9,7 @@ use Rattle.sentence.proofs.Reader as Reader
 use Rattle.names.specs.Names as Names
 use Rattle.numbers.specs.Numbers as Numbers
 use Rattle.instruction.specs.Instructions as Instructions
-use Rattle.machine.specs.Machine as Machine
+use Rattle.rules.specs.Machine as Machine
 use Rattle.meaning.specs.Layout as Layout
 use Rattle.meaning.specs.Meaning as Meaning
 use Rattle.compiler.specs.Compiled as Compiled

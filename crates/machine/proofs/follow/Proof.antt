@@ -11,12 +11,13 @@ use lib.ListN.{length, length-set}
 use mir.Syntax.{w32}
 use mir.Val.{SFits}
 use mir.Facts.{toZ-ofZ}
-use Rattle.machine.specs.Machine as M
+use Rattle.rules.specs.Machine as M
 use Rattle.moves.specs.declared.State.{State}
 use Rattle.moves.specs.declared.Move.the-variants.{Put, Set}
 use Rattle.machine.specs.inner.Coded.{live, machine-of, Good, Did}
 use Rattle.machine.specs.Promise.{lends}
-use Rattle.machine.proofs.Runs.{run-goes, run-stops, reported, odd-table, even-table}
+use Rattle.rules.proofs.Runs.{run-goes, run-stops, even-table}
+use Rattle.machine.proofs.Runs.{reported, odd-table}
 use Rattle.machine.proofs.follow.Statement.{statement}
 use Rattle.machine.proofs.follow.Tie as tie
 

@@ -1,7 +1,7 @@
 -- `run` meets its contract. Assumes nothing.
 use mathlib.Core.Path.{ap, _∙_}
 use borrow.Author.Needs.{needs}
-use Rattle.machine.specs.Machine.{stack-after}
+use Rattle.rules.specs.Machine.{stack-after}
 use Rattle.machine.proofs.run.Statement.{statement}
 use Rattle.machine.proofs.run.Tie as tie
 

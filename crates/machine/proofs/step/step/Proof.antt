@@ -10,7 +10,7 @@ use lib.Seq.{length-take-le}
 use mir.Syntax.{w32}
 use mir.Facts.{toZ-ofZ}
 use Rattle.moves.specs.inner.Moves.{moves-to}
-use Rattle.machine.specs.Machine as M
+use Rattle.rules.specs.Machine as M
 use Rattle.machine.specs.inner.Coded.{Good}
 use Rattle.machine.proofs.Performs.{performs}
 use Rattle.machine.proofs.Steps.{stops, also, fetches}

@@ -7,7 +7,7 @@ use lib.ListN.{length, getD, drop}
 use borrow.Author.Tests.{lt-ltb, le-ltb}
 use Rattle.endings.specs.Endings.{stack-full, bad-code}
 use Rattle.instruction.specs.Instructions.{Instruction, takes, gives}
-use Rattle.machine.specs.Machine.{Lent, Machine, stop, names-well, does, tried}
+use Rattle.rules.specs.Machine.{Lent, Machine, stop, names-well, does, tried}
 
 module _ (lent : Lent) (i : Instruction) (m : Machine) where
   pub few : length (m .stack) < takes i → stop bad-code ≡ tried lent i m

@@ -10,7 +10,7 @@ use lib.ListN.{length, getElem?}
 use borrow.Author.Tests.{ltb-false, eq-eqb}
 use Rattle.instruction.specs.Instructions.{Instruction, numbers}
 use Rattle.instruction.proofs.Pairs.{All-sound, length-numbers, decoded-at}
-use Rattle.machine.specs.Machine.{Lent, pairs, fetched}
+use Rattle.rules.specs.Machine.{Lent, pairs, fetched}
 
 outside : (is : List Instruction) (a : ℕ) → length is ≤ a → getElem? is a ≡ none
 outside [] a h = refl

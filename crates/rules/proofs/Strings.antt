@@ -6,7 +6,7 @@ use Prim.Native.Nat.{ℕ, _+_, _≤_, _<_}
 use native.Mathlib.Omega.{arith}
 use lib.ListN.{length, drop, length-drop}
 use borrow.Author.Tests.{lt-ltb, le-ltb}
-use Rattle.machine.specs.Machine.{string, closed}
+use Rattle.rules.specs.Machine.{string, closed}
 
 module _ (text : List ℕ) (q : ℕ) where
   -- the place of the next quote from q on, or the end where there is none
