@@ -1,5 +1,4 @@
 pub mod Adds
 pub mod Forms
 pub mod Short
-pub mod Tables
 pub mod Unique

@@ -15,7 +15,7 @@ use Rattle.base.specs.declared.Refusal.{Refusal}
 use Rattle.base.specs.declared.Refusal.the-variants.{TooLong, NoLexeme, TooLarge, NoProgram, TooDeep, Undeclared, TooManyDeclared, TooMuchCode}
 use Rattle.base.specs.Answers.{number}
 use Rattle.lines.specs.Forms.{filled}
-use Rattle.lines.specs.Lines.{refused-line, ending-line, accepted-line, instruction-line}
+use Rattle.lines.specs.Lines.{refused-line, ending-line, accepted-line}
 
 -- below 2 ^ 64
 abbrev pub Small : ℕ → Type 0
@@ -71,7 +71,3 @@ short-ending e s h i = omega (arith, short-filled (bytes "ending # steps #\n") (
 pub short-accepted : (i c n : ℕ) → Small i → Small c → Small n → length (accepted-line i c n) ≤ 96
 unfolding accepted-line bytes bytes-from
 short-accepted i c n h j k = omega (arith, short-filled (bytes "accepted # # #\n") (i ∷ c ∷ n ∷ []) (h, (j, (k, tt))))
-
-pub short-instruction : (place : ℕ) (operation operand : ℤ) → Small place → SFits w32 operation → SFits w32 operand → length (instruction-line place operation operand) ≤ 65
-unfolding instruction-line bytes bytes-from
-short-instruction place operation operand h f g = simp length-append (omega (arith, short-natural place h, short-integer operation f, short-integer operand g))

@@ -1,4 +1,4 @@
--- What is added to a page leaves one page and one place after it: for every function of `lines`, `words` and `place` that adds bytes. Assumes nothing.
+-- What is added to a page leaves one page and one place after it: for every function of `lines`, `pairs`, `words` and `marks` that adds bytes. Assumes nothing.
 use mathlib.Core.Path.{_≡_, sym, _∙_}
 use mathlib.Core.List.{List}
 use Prim.Native.Nat.{ℕ}

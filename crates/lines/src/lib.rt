@@ -1,15 +1,14 @@
 // Lines, added to a page that is lent. Each function answers the place after what it added; what the page has no room for is left out.
 ghost use mathlib.Core.Path.{_≡_};
 ghost use mathlib.Core.Bool.{cond};
-ghost use mathlib.Core.List.{[], _∷_, _++_};
-ghost use Prim.Native.Nat.{_≤_, _<_, _+_, _*_, _/_};
+ghost use mathlib.Core.List.{[], _∷_};
 ghost use lib.Dec.{eqb};
 ghost use lib.IntN.{pos};
-ghost use lib.ListN.{length, getD};
+ghost use lib.ListN.{getD};
 ghost use Rattle.numbers.specs.Numbers.{decimal};
 ghost use Rattle.lines.specs.Added.{Added};
 ghost use Rattle.lines.specs.Forms.{filled};
-ghost use Rattle.lines.specs.Lines.{refused-line, ending-line, accepted-line, instruction-line, table-lines};
+ghost use Rattle.lines.specs.Lines.{refused-line, ending-line, accepted-line};
 use base::Refusal;
 use base::smaller;
 use numbers::decimal::put_decimal;
@@ -37,7 +36,7 @@ pub fn put(page: &mut [u8], at: usize, bytes: &[u8]) -> usize
     next
 }
 
-fn put_natural(page: &mut [u8], at: usize, n: u64) -> usize
+pub fn put_natural(page: &mut [u8], at: usize, n: u64) -> usize
     ensures { λ r. ⌜ Added (decimal (pos n)) (now (page .entry)) at (now (page .exit)) r ⌝ }
 {
     let mut digits = [0u8; 20];
@@ -120,30 +119,4 @@ pub fn put_spaced(page: &mut [u8], at: usize, v: i32) -> usize
     let from = put_decimal(v, &mut digits) - 1;
     digits[from] = b' ';
     put(page, at, &digits[from..])
-}
-
-// `PLACE OPERATION OPERAND`, of a pair of a code table.
-fn instruction(page: &mut [u8], at: usize, table: &[i32], i: usize) -> usize
-    requires { ⌜ i < length (now table) / 2 ⌝ }
-    ensures { λ r. ⌜ Added (instruction-line i (getD (now (table .entry)) (i * 2) (pos 0)) (getD (now (table .entry)) (i * 2 + 1) (pos 0))) (now (page .entry)) at (now (page .exit)) r ⌝ }
-    ensures { λ _. ⌜ length (instruction-line i (getD (now (table .entry)) (i * 2) (pos 0)) (getD (now (table .entry)) (i * 2 + 1) (pos 0))) ≤ 65 ⌝ }
-{
-    let a = put_natural(page, at, i as u64);
-    let b = put_spaced(page, a, table[i * 2]);
-    let c = put_spaced(page, b, table[i * 2 + 1]);
-    put_byte(page, c, b'\n')
-}
-
-// A line for each pair of a code table.
-pub fn instructions(page: &mut [u8], at: usize, table: &[i32]) -> usize
-    ensures { λ r. ⌜ Added (table-lines (now (table .entry))) (now (page .entry)) at (now (page .exit)) r ⌝ }
-    ensures { λ _. ⌜ length (table-lines (now (table .entry))) ≤ length (now (table .entry)) / 2 * 65 ⌝ }
-{
-    let mut next = smaller(page.len(), at);
-    let mut i = 0;
-    while i < table.len() / 2 {
-        next = instruction(page, next, table, i);
-        i += 1;
-    }
-    next
 }

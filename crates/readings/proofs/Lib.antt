@@ -1,4 +1,3 @@
-pub mod Numbers
+pub mod Left
 pub mod Takes
 pub mod Whole
-pub mod Words

@@ -13,14 +13,16 @@ use lib.ListN.{length, drop, set, length-set}
 use lib.Seq.{sets-eq}
 use borrow.Author.Tests.{lt-ltb, le-ltb, leb-true}
 use Rattle.base.specs.Bytes.{separator, run}
-use Rattle.readings.specs.Readings.{number-in-range, reading, other, past, readings}
+use Rattle.reading.specs.Reading.{number-in-range, reading}
+use Rattle.reading.specs.inner.Words.{word-more}
+use Rattle.reading.specs.declared.Phase.{Phase}
+use Rattle.reading.specs.declared.Phase.the-variants.{Between, Minus, Number, Over}
+use Rattle.readings.specs.Readings.{other, past, readings}
 use Rattle.readings.specs.inner.Rest.{from-a-word, from-within, left, stored-after, takes, stopped, over}
-use Rattle.readings.specs.inner.Steps.{Both, both, word-more, stored, ended, ended-at}
+use Rattle.readings.specs.inner.Steps.{Both, both, stored, ended, ended-at}
 use Rattle.readings.specs.Taken.{Taken, taken-in}
-use Rattle.readings.specs.declared.Phase.{Phase}
-use Rattle.readings.specs.declared.Phase.the-variants.{Between, Minus, Number, Over}
 use Rattle.readings.specs.declared.Reader.{Reader}
-use Rattle.readings.proofs.Words.{separates, skip, left-on, left-minus, left-none, left-some}
+use Rattle.readings.proofs.Left.{separates, skip, left-on, left-minus, left-none, left-some}
 
 -- ---- what is stored
 

@@ -1,21 +1,16 @@
 // The readings of an input that comes in chunks of any length.
 ghost use mathlib.Core.Path.{_≡_};
-ghost use mathlib.Core.Bool.{true};
 ghost use mathlib.Core.List.{List, [], _∷_, _++_};
 ghost use Prim.Native.Nat.{ℕ};
 ghost use lib.IntN.{ℤ};
-ghost use Rattle.readings.specs.Readings.{in-signed-range, signed, number-in-range};
+ghost use Rattle.reading.specs.Reading.{number-in-range};
 ghost use Rattle.readings.specs.inner.Rest.{takes, over};
-ghost use Rattle.readings.specs.inner.Steps.{digit-more, word-more, stored, ended};
+ghost use Rattle.readings.specs.inner.Steps.{stored, ended};
 ghost use Rattle.readings.specs.Taken.{taken-in};
-
-// What the bytes since the last separator are: none, a minus alone, a number with its sign and magnitude; or the readings are over.
-pub enum Phase {
-    Between,
-    Minus,
-    Number(bool, u32),
-    Over,
-}
+use reading::Phase;
+use reading::Word;
+use reading::number_in_range;
+use reading::word_more;
 
 // Where the input stands, and how many readings are stored.
 pub struct Reader {
@@ -23,71 +18,24 @@ pub struct Reader {
     pub count: usize,
 }
 
-fn is_in_range(negative: bool, n: u64) -> bool
-    ensures { λ r. ⌜ r ≡ in-signed-range negative n ⌝ }
-{
-    if negative {
-        return n <= 2147483648;
-    }
-    n <= 2147483647
-}
-
-fn signed(negative: bool, n: u64) -> i32
-    requires { ⌜ in-signed-range negative n ≡ true ⌝ }
-    ensures { λ r. ⌜ r ≡ signed negative n ⌝ }
-{
-    if negative {
-        return (-(n as i64)) as i32;
-    }
-    n as i32
-}
-
-fn digit_more(negative: bool, n: u32, b: u8) -> Phase
-    ensures { λ r. ⌜ r ≡ digit-more negative n b ⌝ }
-{
-    if !base::is_digit(b) {
-        return Phase::Over;
-    }
-    let m = n as u64 * 10 + (b - 48) as u64;
-    if !is_in_range(negative, m) {
-        return Phase::Over;
-    }
-    Phase::Number(negative, m as u32)
-}
-
-fn word_more(phase: Phase, b: u8) -> Phase
-    ensures { λ r. ⌜ r ≡ word-more phase b ⌝ }
-{
-    match phase {
-        Phase::Between => {
-            if b == b'-' {
-                return Phase::Minus;
-            }
-            digit_more(false, 0, b)
-        }
-        Phase::Minus => digit_more(true, 0, b),
-        Phase::Number(negative, n) => digit_more(negative, n, b),
-        Phase::Over => Phase::Over,
-    }
-}
-
 // A number is stored if it is in range and there is room; else the readings are over.
-fn store(negative: bool, n: u64, count: usize, numbers: &mut [i32]) -> Reader
+fn store(negative: bool, n: u32, count: usize, numbers: &mut [i32]) -> Reader
     ensures { λ r. ⌜ record { reader = r; numbers = now (numbers .exit) } ≡ stored (number-in-range negative n) count (now (numbers .entry)) ⌝ }
 {
-    if !is_in_range(negative, n) {
+    let word = number_in_range(negative, n);
+    let Word::Reads(z) = word else {
         return Reader {
             phase: Phase::Over,
             count,
         };
-    }
+    };
     if numbers.len() <= count {
         return Reader {
             phase: Phase::Over,
             count,
         };
     }
-    numbers[count] = signed(negative, n);
+    numbers[count] = z;
     Reader {
         phase: Phase::Between,
         count: count + 1,
@@ -105,7 +53,7 @@ fn end_word(r: Reader, numbers: &mut [i32]) -> Reader
             phase: Phase::Over,
             count: r.count,
         },
-        Phase::Number(negative, n) => store(negative, n as u64, r.count, numbers),
+        Phase::Number(negative, n) => store(negative, n, r.count, numbers),
         Phase::Over => r,
     }
 }

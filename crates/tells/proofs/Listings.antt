@@ -10,8 +10,9 @@ use Rattle.tables.specs.declared.Answer.{Answer}
 use Rattle.tables.specs.declared.Answer.the-variants as answer
 use Rattle.tables.specs.declared.Counts.{Counts}
 use Rattle.lines.specs.Added.{Added}
-use Rattle.lines.specs.Lines.{refused-line, accepted-line, table-lines}
+use Rattle.lines.specs.Lines.{refused-line, accepted-line}
 use Rattle.lines.proofs.Short.{Small, short-accepted}
+use Rattle.pairs.specs.Pairs.{table-lines}
 use Rattle.tells.specs.Tells.{said-of-answer}
 use Rattle.tells.specs.Writes.{Writes}
 use Rattle.tells.proofs.Pages.{said-bytes, said-page, untouched}

@@ -13,7 +13,8 @@ use Rattle.rules.specs.Machine.{Report}
 use Rattle.tables.specs.declared.Answer.{Answer}
 use Rattle.tables.specs.declared.Answer.the-variants.{Accepted, Refused}
 use Rattle.reports.specs.Reports.{sendable}
-use Rattle.lines.specs.Lines.{line-end, refused-line, ending-line, accepted-line, table-lines}
+use Rattle.lines.specs.Lines.{line-end, refused-line, ending-line, accepted-line}
+use Rattle.pairs.specs.Pairs.{table-lines}
 
 -- on standard output, on standard error, and by its status
 pub record Said : Type 0 where

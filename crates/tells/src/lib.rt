@@ -52,7 +52,7 @@ pub fn list(a: Answer, table: &[i32; Limits::INSTRUCTIONS * 2], page: &mut [u8; 
         Answer::Accepted(c) => {
             let at = lines::accepted(page, 0, c.instructions, c.cells, c.need);
             Said {
-                out: lines::instructions(page, at, code(c.instructions, table)),
+                out: pairs::instructions(page, at, code(c.instructions, table)),
                 err: 0,
                 status: GOOD,
             }

@@ -3,9 +3,9 @@ use mathlib.Core.Path.{_≡_, refl}
 use mathlib.Core.List.{List}
 use denote.Ref.{now}
 use lib.IntN.{ℤ}
+use Rattle.reading.specs.declared.Phase.{Phase}
+use Rattle.reading.specs.declared.Phase.the-variants.{Between, Over}
 use Rattle.readings.specs.inner.Steps.{both, ended, ended-at}
-use Rattle.readings.specs.declared.Phase.{Phase}
-use Rattle.readings.specs.declared.Phase.the-variants.{Between, Over}
 use Rattle.readings.specs.declared.Reader.{Reader}
 use borrow.Author.Needs.{needs}
 use Rattle.readings.proofs.end_word.Statement.{statement}
@@ -36,7 +36,6 @@ pub end-word-spec : {M : Type 1} → statement M
 end-word-spec =
     tie.close
     (tie.spec
-    (λ c. search needs)
     (λ c. search needs)
     (λ c. search needs)
     (λ c. search needs)

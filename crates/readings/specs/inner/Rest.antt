@@ -1,26 +1,20 @@
 -- What a reader takes of the rest of an input. The paper's definition is `taken-in`: the contracts of `start`, `more` and `finish` lead from it to the result, whatever `takes` is
 -- (`whole` in proofs/Whole.antt), so nothing of this file need be believed.
 use mathlib.Core.List.{List, [], _∷_}
-use mathlib.Core.Bool.{Bool, true, false, cond, _||_}
+use mathlib.Core.Bool.{Bool, true, false, _||_}
 use mathlib.Core.Option.{Option, none, some}
 use Prim.Native.Nat.{ℕ, zero, suc, _+_, _-_}
 use lib.Dec.{leb}
 use lib.IntN.{ℤ}
 use lib.ListN.{length}
 use lib.Seq.{sets}
-use Rattle.base.specs.Bytes.{digit, run, all, value}
-use Rattle.readings.specs.Readings.{number-in-range, digits-reading, reading, other, past, readings}
+use Rattle.base.specs.Bytes.{run}
+use Rattle.reading.specs.inner.Words.{word-of}
+use Rattle.reading.specs.declared.Phase.{Phase}
+use Rattle.reading.specs.declared.Phase.the-variants.{Between, Minus, Number, Over}
+use Rattle.readings.specs.Readings.{other, past, readings}
 use Rattle.readings.specs.Taken.{Taken}
-use Rattle.readings.specs.declared.Phase.{Phase}
-use Rattle.readings.specs.declared.Phase.the-variants.{Between, Minus, Number, Over}
 use Rattle.readings.specs.declared.Reader.{Reader}
-
--- what a word reads as whose beginning led to this phase, where w is the rest of it
-unfoldable pub word-of : Phase → List ℕ → Option ℤ
-word-of Between w = reading w
-word-of Minus w = digits-reading true w
-word-of (Number negative n) w = cond (all digit w) (number-in-range negative (value n w)) none
-word-of Over w = none
 
 -- the readings from a word on that reads as o, where s follows it and there is room for m more
 abbrev pub from-a-word : ℕ → Option ℤ → List ℕ → List ℤ

@@ -1,57 +1,20 @@
--- What a phase makes of the rest of its word, and of the rest of the input. Assumes nothing.
+-- What is left of the input: after a byte, and at the end of a word. Assumes nothing.
 use mathlib.Core.Path.{_≡_, refl, sym, ap, _∙_}
 use mathlib.Core.List.{List, [], _∷_}
 use mathlib.Core.Bool.{Bool, true, false, cond, not, _&&_}
-use mathlib.Core.Option.{Option, none, some}
+use mathlib.Core.Option.{none, some}
 use Prim.Native.Nat.{ℕ, zero, suc, _+_, _-_, _*_}
-use native.Mathlib.Omega.{arith}
 use lib.Dec.{eqb}
 use lib.IntN.{ℤ}
-use borrow.Author.Tests.{leb-false, lt-leb}
-use Rattle.base.specs.Bytes.{separator, digit, run, all, value}
+use Rattle.base.specs.Bytes.{separator, digit, run}
 use Rattle.base.proofs.Runs.{run-yes, run-no}
-use Rattle.base.proofs.Words.{value-grows}
-use Rattle.readings.specs.Readings.{in-signed-range, number-in-range, digits-reading, reading, other, past, readings}
-use Rattle.readings.specs.inner.Rest.{word-of, from-a-word, from-within, left}
-use Rattle.readings.specs.inner.Steps.{digit-more, word-more}
-use Rattle.readings.specs.declared.Phase.{Phase}
-use Rattle.readings.specs.declared.Phase.the-variants.{Between, Minus, Number, Over}
-
--- ---- words
-
--- a number that is out of range stays so
-out-of-range : (negative : Bool) (n : ℕ) (w : List ℕ) → in-signed-range negative n ≡ false → number-in-range negative (value n w) ≡ none
-unfolding number-in-range in-signed-range
-out-of-range negative n w e = rw (lt-leb (value n w) (cond negative 2147483648 2147483647) (omega (arith, leb-false n (cond negative 2147483648 2147483647) e, value-grows n w)))
-
-number-on : (negative : Bool) (n b : ℕ) (w : List ℕ) → word-of (digit-more negative n b) w ≡ word-of (Number negative n) (b ∷ w)
-unfolding word-of digit-more all value
-number-on negative n b w = by-tests (digit b) (in-signed-range negative (n * 10 + (b - 48))) refl
-  where
-    m : ℕ
-    m = n * 10 + (b - 48)
-
-    either : (t : Bool) (o : Option ℤ) → o ≡ none → none ≡ cond t o none
-    either true o e = sym e
-    either false o e = refl
-
-    by-tests : (t u : Bool) → in-signed-range negative m ≡ u → word-of (cond (t && u) (Number negative m) Over) w ≡ cond (elim t [ true ↦ all digit w | false ↦ false ]) (number-in-range negative (value m w)) none
-    by-tests true true e = refl
-    by-tests true false e = either (all digit w) (number-in-range negative (value m w)) (out-of-range negative m w e)
-    by-tests false u e = refl
-
-pub word-on : (p : Phase) (b : ℕ) (w : List ℕ) → word-of (word-more p b) w ≡ word-of p (b ∷ w)
-unfolding word-of word-more digits-reading reading
-word-on Between b w = by-test (eqb b 45)
-  where
-    by-test : (t : Bool) → word-of (cond t Minus (digit-more false 0 b)) w ≡ cond t (digits-reading true w) (digits-reading false (b ∷ w))
-    by-test true = refl
-    by-test false = number-on false 0 b w
-word-on Minus b w = number-on true 0 b w
-word-on (Number negative n) b w = number-on negative n b w
-word-on Over b w = refl
-
--- ---- what is left of the input
+use Rattle.reading.specs.Reading.{in-signed-range, number-in-range, reading}
+use Rattle.reading.specs.inner.Words.{word-of, digit-more, word-more}
+use Rattle.reading.specs.declared.Phase.{Phase}
+use Rattle.reading.specs.declared.Phase.the-variants.{Between, Minus, Number, Over}
+use Rattle.reading.proofs.Words.{word-on, minus-ends, number-ends}
+use Rattle.readings.specs.Readings.{other, past, readings}
+use Rattle.readings.specs.inner.Rest.{from-a-word, from-within, left}
 
 past-yes : (such : ℕ → Bool) (b : ℕ) (s : List ℕ) → such b ≡ true → past such (b ∷ s) ≡ past such s
 unfolding past
@@ -117,15 +80,15 @@ separates b s h = run-no other b s (ap not h)
 -- at the end of a word
 module _ (s : List ℕ) (ends : run other s ≡ []) where
   pub left-minus : (m : ℕ) → left m Minus s ≡ []
-  unfolding left from-within word-of digits-reading
+  unfolding left from-within
   left-minus zero = refl
-  left-minus (suc m) = rw ends refl
+  left-minus (suc m) = rw (ends, minus-ends) refl
 
   pub left-none : (m n : ℕ) (negative : Bool) → number-in-range negative n ≡ none → left m (Number negative n) s ≡ []
-  unfolding left from-within word-of all value
+  unfolding left from-within
   left-none zero n negative e = refl
-  left-none (suc m) n negative e = rw (ends, e)
+  left-none (suc m) n negative e = rw (ends, number-ends negative n, e)
 
   pub left-some : (m n : ℕ) (negative : Bool) (z : ℤ) → number-in-range negative n ≡ some z → left (suc m) (Number negative n) s ≡ z ∷ readings m s
-  unfolding left from-within word-of all value past
-  left-some m n negative z e = rw (ends, e)
+  unfolding left from-within past
+  left-some m n negative z e = rw (ends, number-ends negative n, e)

@@ -10,7 +10,7 @@ use mir.Val.{SFits, toZ}
 use mir.Facts.{toZ-pos}
 use borrow.Author.Tests.{leb-true}
 use Rattle.base.specs.Bytes.{digit}
-use Rattle.readings.specs.Readings.{in-signed-range}
+use Rattle.reading.specs.Reading.{in-signed-range}
 
 first : (t u : Bool) → t && u ≡ true → t ≡ true
 first true u e = refl

@@ -1,8 +1,8 @@
--- `readings::is_in_range` meets its contract. Assumes nothing.
+-- `reading::is_in_range` meets its contract. Assumes nothing.
 use mathlib.Core.Path.{refl}
-use Rattle.readings.specs.Readings.{in-signed-range}
-use Rattle.readings.proofs.is_in_range.Statement.{statement}
-use Rattle.readings.proofs.is_in_range.Tie as tie
+use Rattle.reading.specs.Reading.{in-signed-range}
+use Rattle.reading.proofs.is_in_range.Statement.{statement}
+use Rattle.reading.proofs.is_in_range.Tie as tie
 
 returns : tie.Need-returns
 unfolding in-signed-range

@@ -1,9 +1,9 @@
--- `readings::word_more` meets its contract. Assumes nothing.
+-- `reading::word_more` meets its contract. Assumes nothing.
 use borrow.Author.Tests.{eq-eqb, ne-eqb}
-use Rattle.readings.specs.inner.Steps.{word-more}
+use Rattle.reading.specs.inner.Words.{word-more}
 use borrow.Author.Needs.{needs}
-use Rattle.readings.proofs.word_more.Statement.{statement}
-use Rattle.readings.proofs.word_more.Tie as tie
+use Rattle.reading.proofs.word_more.Statement.{statement}
+use Rattle.reading.proofs.word_more.Tie as tie
 
 returns : tie.Need-returns
 unfolding word-more

@@ -1,4 +1,4 @@
--- `lines::instruction` meets its contract. Assumes nothing.
+-- `pairs::instruction` meets its contract. Assumes nothing.
 use Prim.Native.Nat.{_+_, _*_}
 use native.Mathlib.Omega.{arith}
 use borrow.Author.Needs.{needs}
@@ -9,11 +9,11 @@ use mir.Syntax.{w32}
 use mir.Val.{SFits}
 use mir.Facts.{toZ-ofZ}
 use Rattle.base.specs.Bytes.{bytes, bytes-from}
-use Rattle.lines.specs.Lines.{instruction-line}
+use Rattle.pairs.specs.Pairs.{instruction-line}
 use Rattle.lines.proofs.Adds.{adds-then}
-use Rattle.lines.proofs.Short.{short-instruction}
-use Rattle.lines.proofs.instruction.Statement.{statement}
-use Rattle.lines.proofs.instruction.Tie as tie
+use Rattle.pairs.proofs.Tables.{short-instruction}
+use Rattle.pairs.proofs.instruction.Statement.{statement}
+use Rattle.pairs.proofs.instruction.Tie as tie
 
 returns : tie.Need-returns
 unfolding instruction-line bytes bytes-from

@@ -1,15 +1,15 @@
--- `lines::instructions` meets its contract. The loop's invariant: with the lines that are left, all are added. Assumes nothing.
+-- `pairs::instructions` meets its contract. The loop's invariant: with the lines that are left, all are added. Assumes nothing.
 use mathlib.Core.Path.{_≡_}
 use Prim.Native.Nat.{_≤_, _+_, _-_, _*_, _/_}
 use native.Mathlib.Omega.{arith}
 use borrow.Author.Needs.{needs}
 use denote.Ref.{now}
 use lib.ListN.{length}
-use Rattle.lines.specs.Lines.{lines-from, table-lines}
+use Rattle.pairs.specs.Pairs.{lines-from, table-lines}
 use Rattle.lines.proofs.Adds.{Leads, leads-start, leads-on, leads-out, adds-within}
-use Rattle.lines.proofs.Tables.{lines-start, lines-on, lines-out, short-on}
-use Rattle.lines.proofs.instructions.Statement.{statement}
-use Rattle.lines.proofs.instructions.Tie as tie
+use Rattle.pairs.proofs.Tables.{lines-start, lines-on, lines-out, short-on}
+use Rattle.pairs.proofs.instructions.Statement.{statement}
+use Rattle.pairs.proofs.instructions.Tie as tie
 
 abbrev Inv-loop : tie.InvT-loop
 Inv-loop page₀ at table next₀ i₀ page next i = Leads (table-lines table) page₀ at (lines-from (length table / 2 - i) i table) page next × (next ≤ length page) × (length page ≡ length page₀) × (i ≤ length table / 2) × (length (table-lines table) ≤ i * 65 + length (lines-from (length table / 2 - i) i table))

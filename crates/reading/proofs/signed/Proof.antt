@@ -1,10 +1,10 @@
--- `readings::signed` meets its contract. Assumes nothing.
+-- `reading::signed` meets its contract. Assumes nothing.
 use mir.Syntax.{w32, w64}
 use mir.Facts.{toZ-ofZ, toZ-pos, sfits-widen}
-use Rattle.readings.specs.Readings.{signed}
-use Rattle.readings.proofs.Numbers.{range-most, range-positive, less, negative-fits, positive-fits, positive-wide}
-use Rattle.readings.proofs.signed.Statement.{statement}
-use Rattle.readings.proofs.signed.Tie as tie
+use Rattle.reading.specs.Reading.{signed}
+use Rattle.reading.proofs.Numbers.{range-most, range-positive, less, negative-fits, positive-fits, positive-wide}
+use Rattle.reading.proofs.signed.Statement.{statement}
+use Rattle.reading.proofs.signed.Tie as tie
 
 cast-result : tie.Need-cast-result
 cast-result c = positive-wide (c .before .args .n) (range-most _ _ (c .before .pre))

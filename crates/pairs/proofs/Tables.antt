@@ -1,12 +1,20 @@
--- The lines of a code table from a place on. Assumes nothing.
-use mathlib.Core.Path.{_≡_, refl}
+-- The lines of a code table from a place on, and how long one can be. Assumes nothing.
+use mathlib.Core.Path.{_≡_}
 use mathlib.Core.List.{List, [], _++_}
 use Prim.Native.Nat.{ℕ, suc, _+_, _-_, _*_, _/_, _≤_, _<_}
 use native.Mathlib.Numerals.{add-one}
 use native.Mathlib.Omega.{arith}
 use lib.IntN.{ℤ, pos}
 use lib.ListN.{length, getD, length-append}
-use Rattle.lines.specs.Lines.{instruction-line, lines-from, table-lines}
+use mir.Syntax.{w32}
+use mir.Val.{SFits}
+use Rattle.base.specs.Bytes.{bytes, bytes-from}
+use Rattle.lines.proofs.Short.{Small, short-natural, short-integer}
+use Rattle.pairs.specs.Pairs.{instruction-line, lines-from, table-lines}
+
+pub short-instruction : (place : ℕ) (operation operand : ℤ) → Small place → SFits w32 operation → SFits w32 operand → length (instruction-line place operation operand) ≤ 65
+unfolding instruction-line bytes bytes-from
+short-instruction place operation operand h f g = simp length-append (omega (arith, short-natural place h, short-integer operation f, short-integer operand g))
 
 module _ (table : List ℤ) where
   pub lines-start : lines-from (length table / 2 - 0) 0 table ≡ table-lines table

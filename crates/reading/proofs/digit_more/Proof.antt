@@ -1,12 +1,12 @@
--- `readings::digit_more` meets its contract. Assumes nothing.
+-- `reading::digit_more` meets its contract. Assumes nothing.
 use mathlib.Core.Path.{sym, _∙_}
 use borrow.Author.Tests.{not-true, not-false}
 use native.Mathlib.Omega.{arith}
-use Rattle.readings.specs.inner.Steps.{digit-more}
-use Rattle.readings.proofs.Numbers.{digit-low, range-most}
+use Rattle.reading.specs.inner.Words.{digit-more}
+use Rattle.reading.proofs.Numbers.{digit-low, range-most}
 use borrow.Author.Needs.{needs}
-use Rattle.readings.proofs.digit_more.Statement.{statement}
-use Rattle.readings.proofs.digit_more.Tie as tie
+use Rattle.reading.proofs.digit_more.Statement.{statement}
+use Rattle.reading.proofs.digit_more.Tie as tie
 
 returns : tie.Need-returns
 unfolding digit-more
