@@ -9,7 +9,7 @@ use Rattle.instruction.specs.declared.decode.Op.{Op}
 use Rattle.instruction.specs.declared.decode.Op.the-variants.{Bad, Halt, PushInt, LoadStack, StoreStack, Jump, JumpIfFalse, TwoSided, Negate, Not, Read, PrintInt, PrintStr}
 use Rattle.moves.specs.declared.State.{State}
 use Rattle.moves.specs.declared.Move.{Move}
-use Rattle.prints.specs.inner.Prints.{print-move, print-room, Leads}
+use Rattle.perform.specs.inner.Prints.{print-move, print-room, Performed}
 use Rattle.perform.specs.inner.Asks.{asked}
 use Rattle.rules.specs.Machine.{Lent, decoded}
 use Rattle.machine.specs.inner.Coded.{Good, Did}
@@ -36,5 +36,5 @@ module _ {lent : Lent} {before : List ℕ} {s : State} {cells : List ℤ} {room 
 
   -- it is lent the text, the table and the readings of the run
   pub performs : (o : Op) {text : List ℕ} {table readings : List ℤ} → text ≡ lent .text → table ≡ lent .table → readings ≡ lent .readings → {r : Move} {room′ : List ℕ} →
-      Leads (asked s (length table) text readings (held s cells) (length cells) o) room r room′ → Did lent before (decoded lent (as-instruction o)) s cells room r room′
+      Performed (asked s (length table) text readings (held s cells) (length cells) o) room r room′ → Did lent before (decoded lent (as-instruction o)) s cells room r room′
   performs o t e n l = rw (l .answer, l .bytes, t, e, n) (each o)

@@ -18,7 +18,7 @@ use Rattle.instruction.specs.declared.decode.Op.the-variants.{PrintStr}
 use Rattle.moves.specs.inner.Moves.{moves-to}
 use Rattle.moves.specs.declared.State.{State}
 use Rattle.moves.specs.declared.Move.the-variants.{Go, Stop}
-use Rattle.prints.specs.inner.Prints.{Asked, silent, print, fits, print-move, print-room, asked-str, asked-int}
+use Rattle.perform.specs.inner.Prints.{Asked, silent, print, fits, print-move, print-room, asked-str, asked-int}
 use Rattle.rules.specs.Machine.{Lent, string, stop, printed, written, names-well, prints, does, tried, decoded}
 use Rattle.machine.specs.inner.Coded.{machine-of, Rule, Good, Did}
 use Rattle.machine.proofs.Moves.{held, count, top}

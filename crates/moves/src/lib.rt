@@ -117,7 +117,7 @@ pub fn jump_if_false(s: State, live: &[i32], size: usize, a: usize) -> Move
     Move::Go(moved(s, s.index, d))
 }
 
-fn two_sided(s: State, live: &[i32], k: Operator) -> Move
+pub fn two_sided(s: State, live: &[i32], k: Operator) -> Move
     ensures { λ r. ⌜ r ≡ two-sided-move s (now (live .entry)) (as-two-sided k) ⌝ }
 {
     let depth = live.len();
@@ -128,21 +128,6 @@ fn two_sided(s: State, live: &[i32], k: Operator) -> Move
     let a = live[d];
     let b = live[depth - 1];
     put(s, d, calculate(k, a, b))
-}
-
-// Each operator is handed in by its own arm, so that a step tells the operators apart once.
-pub fn operate(s: State, live: &[i32], k: Operator) -> Move
-    ensures { λ r. ⌜ r ≡ two-sided-move s (now (live .entry)) (as-two-sided k) ⌝ }
-{
-    match k {
-        Operator::Plus => two_sided(s, live, Operator::Plus),
-        Operator::Minus => two_sided(s, live, Operator::Minus),
-        Operator::Times => two_sided(s, live, Operator::Times),
-        Operator::Divide => two_sided(s, live, Operator::Divide),
-        Operator::Equals => two_sided(s, live, Operator::Equals),
-        Operator::Smaller => two_sided(s, live, Operator::Smaller),
-        Operator::Greater => two_sided(s, live, Operator::Greater),
-    }
 }
 
 pub fn negate(s: State, live: &[i32]) -> Move

@@ -2,7 +2,7 @@
 use mir.Syntax.{w32}
 use mir.Val.{SFits}
 use mir.Facts.{toZ-ofZ}
-use Rattle.prints.proofs.Prints.{nothing}
+use Rattle.perform.proofs.Prints.{nothing}
 use Rattle.perform.specs.inner.Asks.{asked}
 use borrow.Author.Needs.{needs}
 use Rattle.perform.proofs.perform.Statement.{statement}

@@ -9,7 +9,7 @@ use Rattle.instruction.specs.declared.decode.Op.the-variants.{Bad, Halt, PushIn
 use Rattle.moves.specs.inner.Moves.{push-int-move, load-stack-move, store-stack-move, jump-move, jump-if-false-move, two-sided-move, negate-move, not-move, read-move}
 use Rattle.moves.specs.declared.State.{State}
 use Rattle.moves.specs.declared.Move.the-variants.{Stop}
-use Rattle.prints.specs.inner.Prints.{Asked, silent, asked-str, asked-int}
+use Rattle.perform.specs.inner.Prints.{Asked, silent, asked-str, asked-int}
 
 -- `size` is the table's length, `live` the live cells, and `cells` how many the stack has
 unfoldable pub asked : State → ℕ → List ℕ → List ℤ → List ℤ → ℕ → Op → Asked

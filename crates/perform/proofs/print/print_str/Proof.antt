@@ -4,11 +4,11 @@ use denote.Ref.{now}
 use Rattle.base.specs.Bytes.{no-quote}
 use Rattle.base.specs.inner.Kinds.{such}
 use Rattle.base.proofs.Runs.{run-part}
-use Rattle.prints.specs.inner.Prints.{asked-str}
-use Rattle.prints.proofs.Prints.{nothing}
+use Rattle.perform.specs.inner.Prints.{asked-str}
+use Rattle.perform.proofs.Prints.{nothing}
 use borrow.Author.Needs.{needs}
-use Rattle.prints.proofs.print_str.Statement.{statement}
-use Rattle.prints.proofs.print_str.Tie as tie
+use Rattle.perform.proofs.print.print_str.Statement.{statement}
+use Rattle.perform.proofs.print.print_str.Tie as tie
 
 returns : tie.Need-returns
 unfolding such asked-str

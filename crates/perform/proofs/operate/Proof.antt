@@ -1,7 +1,7 @@
 -- `operate` meets its contract. Assumes nothing.
 use borrow.Author.Needs.{needs}
-use Rattle.moves.proofs.operate.Statement.{statement}
-use Rattle.moves.proofs.operate.Tie as tie
+use Rattle.perform.proofs.operate.Statement.{statement}
+use Rattle.perform.proofs.operate.Tie as tie
 
 returns : tie.Need-returns
 returns c = rw (c .before .enum-told .given .1) (c .two-sided .ensures)

@@ -1,10 +1,10 @@
 -- `write` meets its contract. Assumes nothing.
 use denote.Ref.{now}
 use Rattle.rooms.specs.inner.Rooms.{said}
-use Rattle.prints.proofs.Prints.{prints-so}
+use Rattle.perform.proofs.Prints.{prints-so}
 use borrow.Author.Needs.{needs}
-use Rattle.prints.proofs.write.Statement.{statement}
-use Rattle.prints.proofs.write.Tie as tie
+use Rattle.perform.proofs.print.write.Statement.{statement}
+use Rattle.perform.proofs.print.write.Tie as tie
 
 returns : tie.Need-returns
 returns c = rw (c .before .end .given .1) at (prints-so (c .before .before .before .before .before .before .before .before .before .args .s) (said (c .before .before .before .before .before .before .before .before .before .args .line) (now (c .before .before .before .before .before .before .before .before .before .args .bytes))) (now (c .before .before .before .before .before .before .before .before .before .args .out)) (c .before .before .before .before .before .print .ensures))

@@ -6,11 +6,11 @@ use mir.Syntax.{w32}
 use mir.Facts.{toZ-ofZ}
 use Rattle.rooms.specs.inner.Rooms.{said}
 use Rattle.numbers.proofs.Buffers.{buffer-size, end-part}
-use Rattle.prints.specs.inner.Prints.{asked-int}
-use Rattle.prints.proofs.Prints.{nothing}
+use Rattle.perform.specs.inner.Prints.{asked-int}
+use Rattle.perform.proofs.Prints.{nothing}
 use borrow.Author.Needs.{needs}
-use Rattle.prints.proofs.print_int.Statement.{statement}
-use Rattle.prints.proofs.print_int.Tie as tie
+use Rattle.perform.proofs.print.print_int.Statement.{statement}
+use Rattle.perform.proofs.print.print_int.Tie as tie
 
 returns : tie.Need-returns
 unfolding asked-int

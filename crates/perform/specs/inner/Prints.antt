@@ -38,7 +38,7 @@ print-room (silent m) room = room
 print-room (print s bs) room = cond (fits s bs room) (with-bytes room (s .printed) bs) room
 
 -- the answer r, and the room after it
-pub record Leads (a : Asked) (room : List ℕ) (r : Move) (room′ : List ℕ) : Type 0 where
+pub record Performed (a : Asked) (room : List ℕ) (r : Move) (room′ : List ℕ) : Type 0 where
   pub answer : r ≡ print-move a room
   pub bytes : room′ ≡ print-room a room
 

@@ -1,7 +1,7 @@
 // The instructions that print, at a state that is past the instruction. A print that does not fit the room prints nothing.
 // `live` is the live cells, as many as the depth.
 ghost use Rattle.rooms.specs.inner.Rooms.{said};
-ghost use Rattle.prints.specs.inner.Prints.{print, asked-str, asked-int, Leads};
+ghost use Rattle.perform.specs.inner.Prints.{print, asked-str, asked-int, Performed};
 use base::Such;
 use moves::Move;
 use moves::State;
@@ -11,7 +11,7 @@ use rooms::Printed;
 
 // Bytes, with a line feed after them if it is asked for.
 fn write(s: State, bytes: &[u8], line: bool, out: &mut [u8]) -> Move
-    ensures { λ r. ⌜ Leads (print s (said line (now (bytes .entry)))) (now (out .entry)) r (now (out .exit)) ⌝ }
+    ensures { λ r. ⌜ Performed (print s (said line (now (bytes .entry)))) (now (out .entry)) r (now (out .exit)) ⌝ }
 {
     match rooms::print(out, s.printed, bytes, line) {
         Printed::UpTo(end) => Move::Go(State {
@@ -25,7 +25,7 @@ fn write(s: State, bytes: &[u8], line: bool, out: &mut [u8]) -> Move
 }
 
 pub fn print_str(s: State, text: &[u8], q: usize, line: bool, out: &mut [u8]) -> Move
-    ensures { λ r. ⌜ Leads (asked-str s (now (text .entry)) q line) (now (out .entry)) r (now (out .exit)) ⌝ }
+    ensures { λ r. ⌜ Performed (asked-str s (now (text .entry)) q line) (now (out .entry)) r (now (out .exit)) ⌝ }
 {
     let end = base::run_end(text, q, Such::NoQuote);
     if text.len() <= end {
@@ -35,7 +35,7 @@ pub fn print_str(s: State, text: &[u8], q: usize, line: bool, out: &mut [u8]) ->
 }
 
 pub fn print_int(s: State, live: &[i32], out: &mut [u8]) -> Move
-    ensures { λ r. ⌜ Leads (asked-int s (now (live .entry))) (now (out .entry)) r (now (out .exit)) ⌝ }
+    ensures { λ r. ⌜ Performed (asked-int s (now (live .entry))) (now (out .entry)) r (now (out .exit)) ⌝ }
 {
     let depth = live.len();
     if depth < 1 {
