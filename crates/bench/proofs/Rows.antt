@@ -1,5 +1,5 @@
 -- A table of rows, from what the two ways work out for each. Assumes nothing.
-use mathlib.Core.Path.{_≡_, ap}
+use mathlib.Core.Path.{_≡_}
 use mathlib.Core.List.{List, [], _∷_, map}
 use Rattle.limits.specs.Limits.{Limits}
 use Rattle.compiler.proofs.Judging.{compiled, compiled-so}

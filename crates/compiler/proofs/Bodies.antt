@@ -19,7 +19,7 @@ use Rattle.lexeme.specs.declared.Lexeme as code
 use Rattle.lexeme.specs.declared.Found.the-variants as reply
 use Rattle.lexeme.proofs.Kind.{the-type}
 use Rattle.lexeme.proofs.Places.{refused-goes}
-use Rattle.sentence.specs.Sentences.{Kind, Sen, expression, command, declare, input, assign, error, block, single, then}
+use Rattle.sentence.specs.Sentences.{Kind, Sen, expression, command, declare, input, assign, error, block, then}
 use Rattle.sentence.proofs.Reader.{Around, State, after-command}
 use Rattle.names.specs.inner.Held.{counts, declared-in, opened-in, closed-in}
 use Rattle.compiler.specs.declared.walk.Walk.{Walk}
@@ -29,8 +29,8 @@ use Rattle.compiler.specs.declared.walk.Read.the-variants.{Done, Refused
 use Rattle.compiler.specs.inner.Steps.{moved-to, one-instruction, Follows, Past, Advances, Expects, printing-number, cell-of, noted-walk, cell-number, declared-walk, before-body, ended-walk, ended-table}
 use Rattle.tables.specs.inner.Tables.{put}
 use Rattle.compiler.specs.inner.Walks.{name-of, Lays, Ready, First, Reads, Reads-command, Reads-block, Reads-string, Reads-declare, Reads-read, Reads-assign}
-use Rattle.compiler.proofs.Commands.{command-way, string-way, declare-way, read-way, assign-way, guarded-way, block-way, block-so-far, quoted-printed, name-declared, name-read, assign-leads, no-becomes, guarded-leads, block-first, block-more, block-closed, block-lost, error-read, Starts, begun-leads}
-use Rattle.compiler.proofs.Lays.{quoted, guarded, lead, lays-error, lays-quoted, lays-guarded, lays-single, lays-then, ready-body}
+use Rattle.compiler.proofs.Commands.{command-way, string-way, declare-way, read-way, assign-way, guarded-way, block-way, block-so-far, quoted-printed, name-declared, name-read, assign-leads, no-becomes, guarded-leads, block-more, block-closed, block-lost, error-read, Starts, begun-leads}
+use Rattle.compiler.proofs.Lays.{quoted, guarded, lead, lays-error, lays-quoted, lays-guarded, lays-then, ready-body}
 use Rattle.compiler.proofs.Looked.{quoted-of, going}
 use Rattle.compiler.proofs.Names.{noted-is, declared-is, lays-declare, lays-input, lays-assign, lays-block, ready-noted}
 use Rattle.compiler.proofs.Passes.{expression-way, condition-way, lost-first}

@@ -273,14 +273,6 @@ module _ (text : List ℕ) (at : ℕ) where
           (f .0, record { order = omega arith; within = f .1 .within; some = λ _. f .1 .some; last = λ ends. absurd (next-no-end m e n ends); known = known text (m .place) e (m .what) })
       by-reading (none n) = (h, record { order = omega arith; within = omega arith; some = λ k. absurd (k refl); last = λ _. refl; known = known text (length text) (length text) (fixed lexemes.end) })
 
-  -- the end is found only where the text ends
-  pub next-ends : (l : code.Lexeme) → at ≤ length text → Is l ≡ coded (next text at) → Ends l → (l .place ≡ length text) × (l .end ≡ length text)
-  next-ends l h is ends = by-reading (reading l h is) ends
-    where
-      by-reading : {l : code.Lexeme} → Reading l → Ends l → (l .place ≡ length text) × (l .end ≡ length text)
-      by-reading (one m e n) ends = absurd (next-no-end m e n ends)
-      by-reading (none n) ends = (refl, refl)
-
 pub end-small : (most : Sizes) (l : code.Lexeme) (n : ℕ) → Ends l → large most (l .kind) n ≡ false
 unfolding large
 end-small most l n ends = ap (λ (k : Kind). large most k n) ends

@@ -12,9 +12,9 @@ use lib.IntN.{ℤ, pos, negℤ}
 use lib.ListN.{length, getD, drop, length-drop}
 use borrow.Author.Tests.{ltb-false}
 use Rattle.endings.specs.Endings.{stack-full, bad-code}
-use Rattle.numbers.specs.Numbers.{Result, value, ends, in-range, calculate, is-false, decimal}
+use Rattle.numbers.specs.Numbers.{Result, value, ends, in-range, calculate, is-false}
 use Rattle.instruction.specs.Instructions.{Instruction, halt, push-int, load-stack, store-stack, jump, jump-if-false, two-sided, negate, not, read, print-int, print-str, print-str-ln, takes, gives, effect}
-use Rattle.rules.specs.Machine.{Lent, Outside, Machine, string, reading, printed, peek, poke, Step, go, stop, pushed, left-with, jumped, resulting, taken, written, names-well, prints, does, tried}
+use Rattle.rules.specs.Machine.{Lent, Outside, Machine, reading, poke, Step, go, stop, pushed, left-with, jumped, resulting, taken, written, names-well, prints, does, tried}
 
 -- where it goes on, n values are left
 abbrev Leaves : ℕ → Step → Type 0

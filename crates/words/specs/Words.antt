@@ -1,6 +1,6 @@
 -- Document 01, "Refused texts" and "How a run ends", in plain words: what is wrong, and what to look for. Each sentence ends its row, and a sign stands in the place of a number.
 use mathlib.Core.List.{List, [], _∷_, _++_}
-use mathlib.Core.Bool.{Bool, true, false, cond}
+use mathlib.Core.Bool.{true, cond}
 use Prim.Native.Nat.{ℕ, min}
 use Prim.Native.Char.{code}
 use lib.Dec.{eqb, leb}

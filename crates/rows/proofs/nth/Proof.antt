@@ -1,10 +1,10 @@
 -- `rows::nth` meets its contract: the row that is left to find from here is the one from the start. Assumes nothing.
 use mathlib.Core.Path.{_≡_, _∙_}
-use Prim.Native.Nat.{_-_, _≤_}
+use Prim.Native.Nat.{_-_}
 use native.Mathlib.Omega.{arith}
 use borrow.Author.Needs.{needs}
 use denote.Ref.{now}
-use lib.ListN.{length, drop}
+use lib.ListN.{drop}
 use Rattle.rows.specs.Rows.{nth}
 use Rattle.rows.proofs.Laws.{end-within, nth-start, nth-on, nth-none, nth-here}
 use Rattle.rows.proofs.nth.Statement.{statement}

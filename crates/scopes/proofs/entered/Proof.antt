@@ -1,9 +1,7 @@
 -- `names::entered` meets its contract. Assumes nothing.
-use mathlib.Core.Path.{_≡_, refl, sym, ap, _∙_}
-use Prim.Native.Nat.{_≤_, _<_}
+use mathlib.Core.Path.{refl}
 use borrow.Author.Needs.{needs}
 use borrow.Author.Tests.{lt-ltb, le-ltb}
-use denote.Ref.{now}
 use Rattle.names.specs.inner.Held.{counts, room, entered}
 use Rattle.scopes.proofs.entered.Statement.{statement}
 use Rattle.scopes.proofs.entered.Tie as tie

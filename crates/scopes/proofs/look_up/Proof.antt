@@ -3,7 +3,6 @@ use Prim.Native.Nat.{_≤_}
 use mathlib.Core.Path.{_≡_, refl, sym, _∙_}
 use native.Mathlib.Omega.{arith}
 use borrow.Author.Needs.{needs}
-use lib.ListN.{length}
 use Rattle.names.specs.inner.Held.{room, held, visible-in, latest}
 use Rattle.names.proofs.Found.{found-room, found-none, found-last, found-before}
 use Rattle.scopes.proofs.look_up.Statement.{statement}

@@ -1,9 +1,7 @@
 -- `compiler::command::declare` meets its contract. Assumes nothing.
 use borrow.Author.Needs.{needs}
-use mathlib.Core.Path.{ap}
 use native.Mathlib.Omega.{arith}
 use mir.Facts.{toZ-ofZ}
-use Rattle.compiler.specs.declared.walk.Walk.{Walk}
 use Rattle.compiler.specs.inner.Steps.{one-instruction}
 use Rattle.compiler.specs.inner.Walks.{Reads}
 use Rattle.compiler.proofs.Bodies.{not-name, name-given}

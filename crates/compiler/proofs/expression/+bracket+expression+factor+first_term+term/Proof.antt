@@ -13,7 +13,6 @@ use denote.Ref.{now}
 use denote.Enum.Declared.{tagOf}
 use types.Run.{OneOf, miss}
 use lib.IntN.{ℤ, pos}
-use lib.ListN.{length}
 use Rattle.lexeme.specs.Lexemes.{Name, close-round, open-round}
 use Rattle.lexeme.specs.inner.Coded.{code-of, kind-of, fixed-number}
 use Rattle.lexeme.specs.declared.Kind.{Kind}
@@ -27,7 +26,7 @@ use Rattle.compiler.specs.declared.walk.Walk.{Walk}
 use Rattle.compiler.specs.declared.walk.Gives.{Gives}
 use Rattle.compiler.specs.declared.walk.Read.{Read}
 use Rattle.compiler.specs.declared.walk.Read.the-variants.{Done, Refused}
-use Rattle.compiler.specs.inner.Steps.{No-operand, moved-to, one-instruction, joined-walk, noted-walk, cell-of, cell-number, Past, Advances, Expects}
+use Rattle.compiler.specs.inner.Steps.{No-operand, moved-to, one-instruction, noted-walk, cell-of, cell-number, Past, Advances, Expects}
 use Rattle.tables.specs.inner.Tables.{put, operand-of}
 use Rattle.compiler.specs.inner.Walks.{Reads, Reads-factor, Ready, Lays, name-of}
 use Rattle.compiler.proofs.Lays.{trail, lead, lays-literal, lays-bracket, lays-first, lays-unsigned, lays-signed-plus, lays-signed-minus}

@@ -1,5 +1,4 @@
 -- `arith::quotient` meets its contract. Assumes nothing.
-use mathlib.Core.Path.{_∙_}
 use borrow.Author.Needs.{needs}
 use lib.Signed.{quotZ}
 use mir.Facts.{toZ-ofZ}
