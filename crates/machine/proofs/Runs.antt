@@ -5,9 +5,9 @@ use Prim.Native.Nat.{ℕ, _-_, _%_}
 use lib.IntN.{ℤ}
 use lib.ListN.{length, take, take-append-drop}
 use lib.Seq.{length-take-le}
-use borrow.Author.Tests.{ne-eqb}
 use Rattle.endings.specs.Endings.{bad-code}
 use Rattle.rules.specs.Machine.{Lent, Stopped, end-of, Report, report, whole-run, room-after}
+use Rattle.rules.proofs.Runs.{odd-table}
 use Rattle.machine.specs.declared.Report as Code
 use Rattle.moves.specs.declared.State.{State}
 use Rattle.machine.specs.inner.Coded.{machine-of, Good, reports}
@@ -29,10 +29,10 @@ reported {s = s} {room = room} g budget e left steps w p q = rw (← p) (record 
   room = room-is g;
 })
 
--- a table of odd length
-pub odd-table : (lent : Lent) (budget : ℕ) (before : List ℕ) → (length (lent .table) % 2 ≡ 0 → ⊥) → Reported (whole-run lent budget) before (record { ending = bad-code; steps = 0; used = 0; length = 0 }) before
-unfolding whole-run room-after
-odd-table lent budget before h = rw (ne-eqb (length (lent .table) % 2) 0 h) (record { ending = refl; steps = refl; used = refl; size = refl; room = refl })
+-- a table of odd length leaves the room as it was
+pub not-run : (lent : Lent) (budget : ℕ) (before : List ℕ) → (length (lent .table) % 2 ≡ 0 → ⊥) → Reported (whole-run lent budget) before (record { ending = bad-code; steps = 0; used = 0; length = 0 }) before
+unfolding room-after
+not-run lent budget before h = rw (odd-table lent budget h) (record { ending = refl; steps = refl; used = refl; size = refl; room = refl })
 
 -- any two results that meet the promise are the same
 pub one-reported : {w : Report} {before : List ℕ} {r r′ : Code.Report} {after after′ : List ℕ} → Reported w before r after → Reported w before r′ after′ → (r ≡ r′) × (after ≡ after′)

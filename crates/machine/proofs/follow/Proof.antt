@@ -17,7 +17,7 @@ use Rattle.moves.specs.declared.Move.the-variants.{Put, Set}
 use Rattle.machine.specs.inner.Coded.{live, machine-of, Good, Did}
 use Rattle.machine.specs.Promise.{lends}
 use Rattle.rules.proofs.Runs.{run-goes, run-stops, even-table}
-use Rattle.machine.proofs.Runs.{reported, odd-table}
+use Rattle.machine.proofs.Runs.{reported, not-run}
 use Rattle.machine.proofs.follow.Statement.{statement}
 use Rattle.machine.proofs.follow.Tie as tie
 
@@ -57,7 +57,7 @@ set-left : (c : tie.After-step Inv-loop μ-loop) {t : State} {k : ℕ} {v : ℤ}
 set-left c e = (rw e at (did c)) .left .0
 
 returns : tie.Need-returns Inv-loop μ-loop
-returns c = rw (c .ended .ensures) (odd-table (lent (c .before .before .before .before)) (c .before .before .before .before .args .budget) (now (c .before .before .before .before .args .out)) (c .before .if1 .taken))
+returns c = rw (c .ended .ensures) (not-run (lent (c .before .before .before .before)) (c .before .before .before .before .args .budget) (now (c .before .before .before .before .args .out)) (c .before .if1 .taken))
 
 loop-holds : tie.Need-loop-holds Inv-loop μ-loop
 unfolding live
