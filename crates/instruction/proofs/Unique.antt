@@ -6,7 +6,7 @@ use Rattle.numbers.specs.Numbers.{Two-sided, plus, minus, times, divide, equals
 use Rattle.numbers.specs.inner.Coded.{as-two-sided}
 use Rattle.numbers.specs.declared.arith.Operator.{Operator}
 use Rattle.numbers.specs.declared.arith.Operator.the-variants.{Plus, Minus, Times, Divide, Equals, Smaller, Greater}
-use Rattle.numbers.proofs.Unique.{same-by}
+use Rattle.base.proofs.Unique.{same-by}
 use Rattle.instruction.specs.Instructions.{Instruction, halt, push-int, load-stack, store-stack, jump, jump-if-false, two-sided, negate, not, read, print-int, print-str, print-str-ln}
 use Rattle.instruction.specs.inner.Coded.{as-instruction}
 use Rattle.instruction.specs.declared.decode.Op.{Op}

@@ -4,15 +4,12 @@ use mathlib.Core.List.{List}
 use Prim.Native.Nat.{ℕ}
 use native.Mathlib.Omega.{arith}
 use lib.Seq.{sets}
+use Rattle.base.proofs.Unique.{same-by}
 use Rattle.numbers.specs.Numbers.{Result, value, ends}
 use Rattle.numbers.specs.inner.Buffers.{At-the-end}
 use Rattle.numbers.specs.inner.Coded.{as-result}
 use Rattle.numbers.specs.declared.arith.Calculated.{Calculated}
 use Rattle.numbers.specs.declared.arith.Calculated.the-variants.{Value, Ends}
-
--- two things with one image agree where something leads back from it
-pub same-by : {A B : Type 0} (f : A → B) (back : B → A) → ((a : A) → back (f a) ≡ a) → (a b : A) → f a ≡ f b → a ≡ b
-same-by f back h a b e = sym (h a) ∙ ap back e ∙ h b
 
 -- ---- results
 
