@@ -7,10 +7,10 @@ use native.Mathlib.Nat.{le-refl}
 use native.Mathlib.Numerals.{add-one}
 use native.Mathlib.Omega.{arith}
 use lib.Dec.{leb, ltb}
-use borrow.Author.Tests.{lt-leb, leb-true, ltb-true, ltb-false}
+use borrow.Author.Tests.{le-leb, lt-leb, leb-true, ltb-true, ltb-false}
 use lib.ListN.{length, getD, take, drop, drop-of-length-le}
 use lib.Seq.{drop-cons}
-use Rattle.base.specs.Bytes.{letter, small, capital, digit, letter-or-digit, run, begins, all}
+use Rattle.base.specs.Bytes.{between, letter, small, capital, digit, letter-or-digit, run, begins, all}
 
 module _ (such : ℕ → Bool) where
   -- a run after the test of its first byte
@@ -78,6 +78,18 @@ module _ (such : ℕ → Bool) (s : List ℕ) (i : ℕ) where
       by true e = ltb-true i (length s) e
       by false e = let z : _≡_ {A = ℕ} 0 1 = cc (begins-none (ltb-false i (length s) e)) in absurd (omega arith)
 
+-- what begins with such a byte, by what such a byte is
+pub begins-as : (such other : ℕ → Bool) {t : Bool} → ((b : ℕ) → such b ≡ true → other b ≡ t) → (s : List ℕ) → begins such s ≡ true → begins other s ≡ t
+unfolding begins
+begins-as such other is [] h = absurd (let z : _≡_ {A = ℕ} 0 1 = cc in omega arith)
+begins-as such other is (b ∷ s) h = is b h
+
+-- a run begins as what it runs over
+pub run-begins : (such other : ℕ → Bool) (s : List ℕ) → begins such s ≡ true → begins other (run such s) ≡ begins other s
+unfolding begins
+run-begins such other [] h = unfold run in refl
+run-begins such other (b ∷ s) h = rw (run-yes such b s h)
+
 -- a place where no such byte stands ends its own run
 pub run-none : (such : ℕ → Bool) (s : List ℕ) → begins such s ≡ false → run such s ≡ []
 unfolding begins
@@ -127,13 +139,28 @@ module _ (such other both : ℕ → Bool) (is : (b : ℕ) → both b ≡ (such b
 
 -- ---- letters and digits
 
-second : (a b : Bool) → (a && b) ≡ true → b ≡ true
-second true b h = h
-second false b h = let z : _≡_ {A = ℕ} 0 1 = cc in absurd (omega arith)
+-- a byte in a range, and one outside it
+module _ (low high b : ℕ) where
+  pub between-yes : low ≤ b → b ≤ high → between low high b ≡ true
+  between-yes h k = rw (le-leb low b h, le-leb b high k)
+
+  pub between-no : (low ≤ b → high < b) → between low high b ≡ false
+  between-no h = by (leb low b) refl
+    where
+      by : (t : Bool) → leb low b ≡ t → (t && leb b high) ≡ false
+      by true e = lt-leb b high (h (leb-true low b e))
+      by false e = refl
+
+  at-most : between low high b ≡ true → b ≤ high
+  at-most h = by (leb low b) h
+    where
+      by : (t : Bool) → (t && leb b high) ≡ true → b ≤ high
+      by true h = leb-true b high h
+      by false h = let z : _≡_ {A = ℕ} 0 1 = cc in absurd (omega arith)
 
 pub digit-apart : (b : ℕ) → digit b ≡ true → letter b ≡ false
 unfolding digit letter small capital
-digit-apart b h = let n = leb-true b 57 (second (leb 48 b) (leb b 57) h) in rw (lt-leb 97 b (omega arith), lt-leb 65 b (omega arith))
+digit-apart b h = let n = at-most 48 57 b h in rw (lt-leb 97 b (omega arith), lt-leb 65 b (omega arith))
 
 pub letter-apart : (b : ℕ) → letter b ≡ true → digit b ≡ false
 letter-apart b h = by (digit b) refl
@@ -155,10 +182,26 @@ module _ (b : ℕ) where
   unfolding letter-or-digit
   letter-is h = rw h
 
+  pub small-is : small b ≡ true → letter-or-digit b ≡ true
+  unfolding letter-or-digit letter
+  small-is h = rw h
+
+  pub capital-apart : capital b ≡ true → small b ≡ false
+  unfolding capital small
+  capital-apart h = let n = at-most 65 90 b h in rw (lt-leb 97 b (omega arith))
+
+  pub capital-is : capital b ≡ true → letter b ≡ true
+  unfolding letter
+  capital-is h = rw (capital-apart h, h)
+
+  pub digit-not-small : digit b ≡ true → small b ≡ false
+  unfolding digit small
+  digit-not-small h = let n = at-most 48 57 b h in rw (lt-leb 97 b (omega arith))
+
   pub digit-is : digit b ≡ true → letter-or-digit b ≡ true
   unfolding letter-or-digit
   digit-is h = rw (digit-apart b h, h)
 
-  pub neither-is : letter b ≡ false → digit b ≡ false → letter-or-digit b ≡ false
-  unfolding letter-or-digit
-  neither-is h k = rw (h, k)
+  pub neither-is : (48 ≤ b → 57 < b) → (65 ≤ b → 90 < b) → (97 ≤ b → 122 < b) → letter-or-digit b ≡ false
+  unfolding letter-or-digit letter small capital digit
+  neither-is d c s = rw (between-no 97 122 b s, between-no 65 90 b c, between-no 48 57 b d)

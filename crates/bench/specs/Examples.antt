@@ -85,7 +85,7 @@ starred =
     refuses "" 4 0
     ∷ refuses "DO { }" 4 5
     ∷ refuses "DO PRINTI n" 6 10
-    ∷ refuses "DO PRINTI a1" 2 10
+    ∷ refuses "DO PRINTI a1" 6 10
     ∷ record { text = bytes "DO PRINTI 1/0"; readings = []; budget = 1000000; comes-to = runs (as-numbers ((2, 1) ∷ (2, 0) ∷ (10, 0) ∷ (17, 0) ∷ (1, 0) ∷ [])) 0 2 (ends 5 3 0 "") }
     ∷ record { text = bytes "DO PRINTI (0-7)/2"; readings = []; budget = 1000000; comes-to = runs (as-numbers ((2, 0) ∷ (2, 7) ∷ (8, 0) ∷ (2, 2) ∷ (10, 0) ∷ (17, 0) ∷ (1, 0) ∷ [])) 0 2 (ends 0 7 0 "-3") }
     ∷ record { text = bytes "DO { IF 1 > 2 THEN INT n PRINTI n }"; readings = []; budget = 1000000; comes-to = runs (as-numbers ((2, 0) ∷ (2, 1) ∷ (2, 2) ∷ (13, 0) ∷ (6, 7) ∷ (2, 0) ∷ (4, 0) ∷ (3, 0) ∷ (17, 0) ∷ (1, 0) ∷ [])) 1 3 (ends 0 8 0 "0") }

@@ -36,6 +36,7 @@ fn main() {
     lesson(b"ice_bowl.o", b"ice_bowl.readings");
     lesson(b"countdown.o", b"countdown.readings");
     lesson(b"average.o", b"average.readings");
+    lesson(b"two_sensors.o", b"two_sensors.readings");
     lesson(b"hello.o", b"hello.readings");
     lesson(b"sum.o", b"sum.readings");
     lesson(b"primes.o", b"primes.readings");

@@ -12,10 +12,10 @@ use lib.ListN.{length, getD, drop, drop-of-length-le, length-drop}
 use lib.Seq.{drop-cons, length-take-le}
 use Rattle.base.specs.declared.Refusal.{Refusal}
 use Rattle.base.specs.Answers.{Answer, given, refused}
-use Rattle.base.specs.Bytes.{separator, small, letter, digit, letter-or-digit, no-quote, run, begins, all, same}
+use Rattle.base.specs.Bytes.{separator, small, letter, digit, letter-or-digit, no-quote, run, begins, all, same, value}
 use Rattle.base.specs.inner.Parts.{part}
 use Rattle.base.proofs.Runs.{run-part, run-yes, run-fits}
-use Rattle.lexeme.specs.Lexemes.{Name, Quoted, Lexeme, lit, name, class, string, fixed, Placed, Next, lexeme, nothing, found, Keyword, keywords, capital-word, Sizes, letter-word, word, string-at, Symbol, symbols, symbol, colon, here, next, too-large}
+use Rattle.lexeme.specs.Lexemes.{Name, Quoted, Lexeme, lit, name, class, string, fixed, Placed, Next, lexeme, nothing, found, Keyword, keywords, capital-word, Sizes, word, string-at, Symbol, symbols, symbol, colon, here, next, too-large}
 use Rattle.lexeme.specs.Lexemes as lexemes
 use Rattle.lexeme.specs.inner.Coded.{kind-of, coded, code-of, what-of, told, placed, Ends, Stands, large}
 use Rattle.lexeme.specs.declared.Kind.{Kind}
@@ -58,8 +58,8 @@ pub record Closed (text : List ℕ) (q : Quoted) : Type 0 where
 -- a lexeme as it is written from the place p up to e; a literal is written in more than one way
 abbrev pub Written : List ℕ → ℕ → ℕ → Lexeme → Type 0
 Written text p e (lit n) = Unit {0}
-Written text p e (name x) = x ≡ record { letters = part text p e; place = p }
-Written text p e (class x) = x ≡ record { letters = part text p e; place = p }
+Written text p e (name x) = x ≡ record { spelled = part text p e; place = p }
+Written text p e (class x) = x ≡ record { spelled = part text p e; place = p }
 Written text p e (string q) = ((p + 1 < e) × (q ≡ record { inside = part text (p + 1) (e - 1); place = p + 1 })) × Closed text q
 Written text p e (fixed f) = eqb (code-of f) (code-of lexemes.end) ≡ false
 
@@ -81,9 +81,12 @@ by-test P false f g = g refl
 
 module _ (text : List ℕ) (p : ℕ) where
   module _ (w : List ℕ) (is : part text p (p + length w) ≡ w) where
+    named : Written text p (p + length w) (name (record { spelled = w; place = p }))
+    named = ap (λ (x : List ℕ). record { spelled = x; place = p }) (sym is)
+
     capital-written : {ks : List Keyword} → Each (λ (k : Keyword). eqb (code-of (k .means)) 0 ≡ false) ks → Written text p (p + length w) (capital-word ks p w)
     unfolding capital-word code-of
-    capital-written nil = ap (λ (x : List ℕ). record { letters = x; place = p }) (sym is)
+    capital-written nil = named
     capital-written (_also_ {a = k} {rest = ks} h hs) = by-spelling (capital-written hs) (same w (k .spelled))
       where
         by-spelling : Written text p (p + length w) (capital-word ks p w) → (t : Bool) → Written text p (p + length w) (elim t [ true ↦ fixed (k .means) | false ↦ capital-word ks p w ])
@@ -91,21 +94,16 @@ module _ (text : List ℕ) (p : ℕ) where
         by-spelling later false = later
 
     word-good : 0 < length w → p + length w ≤ length text → Good text p (word p w)
-    unfolding word letter-word found keywords code-of
+    unfolding word found keywords code-of
     word-good some within =
-        by-test (Good text p) (all letter w)
-        (λ _. (
-          refl,
-          record {
-            some = omega arith;
-            within = within;
-            written =
-                by-test (Written text p (p + length w)) (begins small w)
-                (λ _. ap (λ (x : List ℕ). record { letters = x; place = p }) (sym is))
-                (λ _. capital-written (refl also refl also refl also refl also refl also refl also refl also refl also refl also refl also refl also refl also refl also refl also refl also refl also refl also refl also refl also refl also refl also nil));
-          },
-        ))
-        (λ _. by-test (Good text p) (all digit w) (λ _. (refl, record { some = omega arith; within = within; written = tt })) (λ _. tt))
+        by-test (Good text p) (begins small w) (λ _. stands (name (record { spelled = w; place = p })) named)
+        (λ _. by-test (Good text p) (all letter w)
+        (λ _. stands (capital-word keywords p w)
+        (capital-written (refl also refl also refl also refl also refl also refl also refl also refl also refl also refl also refl also refl also refl also refl also refl also refl also refl also refl also refl also refl also refl also nil)))
+        (λ _. by-test (Good text p) (all digit w) (λ _. stands (lit (value 0 w)) tt) (λ _. tt)))
+      where
+        stands : (l : Lexeme) → Written text p (p + length w) l → Good text p (found p l (p + length w))
+        stands l h = (refl, record { some = omega arith; within = within; written = h })
 
   symbol-good : (b : ℕ) → p < length text → {ys : List Symbol} → Each (λ (y : Symbol). eqb (code-of (y .means)) 0 ≡ false) ys → Good text p (symbol ys p b)
   unfolding symbol found code-of
@@ -195,8 +193,8 @@ module _ (text : List ℕ) (p e : ℕ) where
   sizes : (most : Sizes) → most .literal < 4294967295 → (w : Lexeme) → e ≤ length text → Written text p e w → large most (kind-of w) (e - p) ≡ too-large most w
   unfolding kind-of large too-large
   sizes most small (lit n) i h = same-test (most .literal) (min n 4294967295) (most .literal) n (λ t. omega arith) (λ t. omega arith)
-  sizes most small (name x) i h = ap (ltb (most .word)) (sym (ap (λ (y : Name). length (y .letters)) h ∙ part-length text p e i))
-  sizes most small (class x) i h = ap (ltb (most .word)) (sym (ap (λ (y : Name). length (y .letters)) h ∙ part-length text p e i))
+  sizes most small (name x) i h = ap (ltb (most .word)) (sym (ap (λ (y : Name). length (y .spelled)) h ∙ part-length text p e i))
+  sizes most small (class x) i h = ap (ltb (most .word)) (sym (ap (λ (y : Name). length (y .spelled)) h ∙ part-length text p e i))
   sizes most small (string q) i h =
       let n : length (q .inside) ≡ e - 1 - (p + 1) = ap (λ (y : Quoted). length (y .inside)) (h .0 .1) ∙ part-length text (p + 1) (e - 1) (omega arith) in
       same-test (most .string + 2) (e - p) (most .string) (length (q .inside)) (λ t. omega (arith, h .0 .0)) (λ t. omega (arith, h .0 .0))

@@ -9,9 +9,9 @@ use lib.Seq.{drop-drop}
 use borrow.Author.Tests.{le-leb, lt-leb}
 use Rattle.base.specs.declared.Refusal.the-variants.{NoLexeme}
 use Rattle.base.specs.Answers.{refused}
-use Rattle.base.proofs.Runs.{all-own, run-alone, run-mixed, run-begun, digit-apart, letter-apart, letters-first, digits-first}
-use Rattle.base.specs.Bytes.{small, letter, digit, letter-or-digit, no-quote, run, begins, all, same, value}
-use Rattle.lexeme.specs.Lexemes.{Keyword, lit, fixed, capital-word, letter-word, word, string, string-at, found}
+use Rattle.base.proofs.Runs.{all-own, begins-as, run-begins, run-alone, run-mixed, run-begun, capital-apart, capital-is, small-is, letter-is, digit-is, digit-not-small, digit-apart, letter-apart, letters-first, digits-first}
+use Rattle.base.specs.Bytes.{small, capital, letter, digit, letter-or-digit, no-quote, run, begins, all, same, value}
+use Rattle.lexeme.specs.Lexemes.{Keyword, keywords, lit, name, fixed, capital-word, word, string, string-at, found}
 use Rattle.lexeme.specs.inner.Coded.{code-of, kind-of}
 use Rattle.lexeme.specs.declared.Kind.{Kind}
 use Rattle.lexeme.specs.declared.Kind.the-variants.{Fixed}
@@ -37,16 +37,6 @@ module _ {k : Keyword} {rest ks : List Keyword} {w : List ℕ} (left : Left (k �
   unfolding capital-word
   keyword-miss h = record { same-kind = λ p. ap (after-keyword k rest w p) (sym h ∙ tested) ∙ left .same-kind p }
 
-pub starts-empty : (w : List ℕ) → length w ≡ 0 → false ≡ begins small w
-unfolding begins
-starts-empty [] e = refl
-starts-empty (b ∷ w) e = absurd (omega arith)
-
-pub starts-first : (w : List ℕ) → (length w ≡ 0 → ⊥) → begins small w ≡ small (getD w 0 0)
-unfolding begins
-starts-first [] n = absurd (n refl)
-starts-first (b ∷ w) n = refl
-
 -- a word at p, where e is the place after the letters, or the digits, that it begins with
 module _ (text : List ℕ) (p e : ℕ) where
   abbrev whole : List ℕ
@@ -56,16 +46,32 @@ module _ (text : List ℕ) (p e : ℕ) where
   after-run : (such other : ℕ → Bool) {t : Bool} → e ≡ p + length (run such (drop p text)) → begins other (drop e text) ≡ t → begins other (drop (length (run such (drop p text))) (drop p text)) ≡ t
   after-run such other h b = rw (drop-drop (length (run such (drop p text))) p text, ← h) b
 
-  module _ (run-ends : e ≡ p + length (run letter (drop p text))) where
-    pub letters-alone : begins digit (drop e text) ≡ false → word p whole ≡ found p (letter-word p (run letter (drop p text))) e
-    unfolding word
-    letters-alone n = rw (run-alone letter digit letter-or-digit letters-first (drop p text) (after-run letter digit run-ends n), all-own letter (drop p text), run-ends) refl
+  -- a word that begins with a byte of a kind that is not small starts no name
+  not-small : (first : ℕ → Bool) → ((b : ℕ) → first b ≡ true → letter-or-digit b ≡ true) → ((b : ℕ) → first b ≡ true → small b ≡ false) → begins first (drop p text) ≡ true → begins small whole ≡ false
+  not-small first is apart b = run-begins letter-or-digit small (drop p text) (begins-as first letter-or-digit is (drop p text) b) ∙ begins-as first small apart (drop p text) b
 
-    pub letters-mixed : begins letter (drop p text) ≡ true → begins digit (drop e text) ≡ true → word p whole ≡ refused NoLexeme p
+  pub name-alone : e ≡ p + length whole → begins small (drop p text) ≡ true → word p whole ≡ found p (name (record { spelled = whole; place = p })) e
+  unfolding word
+  name-alone run-ends b = rw (run-begins letter-or-digit small (drop p text) (begins-as small letter-or-digit small-is (drop p text) b), b, run-ends) refl
+
+  module _ (run-ends : e ≡ p + length (run letter (drop p text))) (b : begins capital (drop p text) ≡ true) where
+    capital-first : begins small whole ≡ false
+    capital-first = not-small capital (λ c h. letter-is c (capital-is c h)) capital-apart b
+
+    pub capitals-alone : begins digit (drop e text) ≡ false → word p whole ≡ found p (capital-word keywords p (run letter (drop p text))) e
     unfolding word
-    letters-mixed b n = rw (run-mixed letter digit letter-or-digit letters-first (drop p text) (after-run letter digit run-ends n), run-begun letter digit letter-or-digit letters-first letter-apart (drop p text) b)
+    capitals-alone n =
+        let same = run-alone letter digit letter-or-digit letters-first (drop p text) (after-run letter digit run-ends n) in
+        rw (capital-first, same, all-own letter (drop p text), run-ends) refl
+
+    pub capitals-mixed : begins digit (drop e text) ≡ true → word p whole ≡ refused NoLexeme p
+    unfolding word
+    capitals-mixed n = rw (capital-first, run-mixed letter digit letter-or-digit letters-first (drop p text) (after-run letter digit run-ends n), run-begun letter digit letter-or-digit letters-first letter-apart (drop p text) (begins-as capital letter capital-is (drop p text) b))
 
   module _ (run-ends : e ≡ p + length (run digit (drop p text))) (b : begins digit (drop p text) ≡ true) where
+    digit-first : begins small whole ≡ false
+    digit-first = not-small digit digit-is digit-not-small b
+
     no-letters : all letter whole ≡ false
     no-letters = run-begun digit letter letter-or-digit digits-first digit-apart (drop p text) b
 
@@ -73,11 +79,11 @@ module _ (text : List ℕ) (p e : ℕ) where
     unfolding word
     digits-alone n =
         let same = run-alone digit letter letter-or-digit digits-first (drop p text) (after-run digit letter run-ends n) in
-        rw (no-letters, same, all-own digit (drop p text), run-ends) refl
+        rw (digit-first, no-letters, same, all-own digit (drop p text), run-ends) refl
 
     pub digits-mixed : begins letter (drop e text) ≡ true → word p whole ≡ refused NoLexeme p
     unfolding word
-    digits-mixed n = rw (no-letters, run-mixed digit letter letter-or-digit digits-first (drop p text) (after-run digit letter run-ends n))
+    digits-mixed n = rw (digit-first, no-letters, run-mixed digit letter letter-or-digit digits-first (drop p text) (after-run digit letter run-ends n))
 
 -- a string whose opening quote is at p, where e is the place of the next quote, or the text's length
 module _ (text : List ℕ) (p e : ℕ) (run-ends : e ≡ p + 1 + length (run no-quote (drop (p + 1) text))) where

@@ -1,4 +1,4 @@
--- Document 01, "Lexemes", and refusals 2 and 3 of "Refused texts".
+-- Document 01, "Lexemes", with the names of document 02, T-01, and refusals 2 and 3 of "Refused texts".
 use mathlib.Core.List.{List, [], _∷_}
 use mathlib.Core.Bool.{Bool, true, false, cond}
 use Prim.Native.Nat.{ℕ, zero, suc, _+_}
@@ -13,9 +13,9 @@ use Rattle.base.specs.Bytes.{bytes, separator, small, letter, digit, letter-or-
 
 -- ---- what a lexeme is
 
--- a name as it stands in the text: its letters, and the place of the first
+-- a name as it stands in the text: how it is spelled, and the place of its first letter
 pub record Name : Type 0 where
-  pub letters : List ℕ
+  pub spelled : List ℕ
   pub place : ℕ
 
 -- a string as it stands in the text: the bytes between its quotes, and the place just after the opening quote
@@ -69,21 +69,18 @@ keywords =
     ∷ keyword "RETURNS" RETURNS ∷ keyword "SUBCLASSOF" SUBCLASSOF ∷ keyword "THEN" THEN ∷ keyword "USING" USING
     ∷ keyword "WHILE" WHILE ∷ []
 
--- a word that starts with a capital: a keyword if it equals one byte for byte, else a class name
+-- a word of letters that starts with a capital: a keyword if it equals one byte for byte, else a class name
 unfoldable pub capital-word : List Keyword → ℕ → List ℕ → Lexeme
-capital-word [] p w = class (record { letters = w; place = p })
+capital-word [] p w = class (record { spelled = w; place = p })
 capital-word (k ∷ ks) p w = elim (same w (k .spelled)) [ true ↦ fixed (k .means) | false ↦ capital-word ks p w ]
 
--- a letter word at the place p: a symbol name if it starts small
-unfoldable pub letter-word : ℕ → List ℕ → Lexeme
-letter-word p w = cond (begins small w) (name (record { letters = w; place = p })) (capital-word keywords p w)
-
--- a word at the place p: all letters, or all digits; a mixed word is refused
+-- a word at the place p: a symbol name if it starts small, whatever letters and digits follow; any other is all letters, or all digits; else it is mixed, and refused
 unfoldable pub word : ℕ → List ℕ → Answer Next
 word p w =
-    cond (all letter w) (found p (letter-word p w) (p + length w))
+    cond (begins small w) (found p (name (record { spelled = w; place = p })) (p + length w))
+    (cond (all letter w) (found p (capital-word keywords p w) (p + length w))
     (cond (all digit w) (found p (lit (value 0 w)) (p + length w))
-    (refused NoLexeme p))
+    (refused NoLexeme p)))
 
 -- ---- strings and symbols
 
@@ -136,11 +133,11 @@ next text at = let p = at + length (run separator (drop at text)) in here p (dro
 
 -- ---- all lexemes of a text, or its leftmost refusal of 2 and 3
 
--- a lexeme that is too large: a letter word, a string or a literal beyond its limit. No keyword is.
+-- a lexeme that is too large: a name or a class name, by its letters and digits, a string or a literal beyond its limit. No keyword is.
 unfoldable pub too-large : Sizes → Lexeme → Bool
 too-large most (lit n) = ltb (most .literal) n
-too-large most (name x) = ltb (most .word) (length (x .letters))
-too-large most (class x) = ltb (most .word) (length (x .letters))
+too-large most (name x) = ltb (most .word) (length (x .spelled))
+too-large most (class x) = ltb (most .word) (length (x .spelled))
 too-large most (string q) = ltb (most .string) (length (q .inside))
 too-large most (fixed f) = false
 

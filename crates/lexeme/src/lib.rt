@@ -2,8 +2,7 @@
 ghost use mathlib.Core.Path.{_≡_};
 ghost use Prim.Native.Nat.{ℕ};
 ghost use lib.ListN.{drop};
-ghost use Rattle.lexeme.specs.Lexemes.{keywords, letter-word, capital-word};
-ghost use Rattle.base.specs.Bytes.{small, begins};
+ghost use Rattle.lexeme.specs.Lexemes.{keywords, capital-word};
 ghost use Rattle.lexeme.specs.inner.Coded.{kind-of, fixed-number};
 use base::Refusal;
 use base::is_same;
@@ -42,18 +41,8 @@ pub fn fixed_of(kind: Kind) -> u8
     }
 }
 
-// A letter word: a name if it starts small, else a keyword or a class name.
-pub fn letter_word(word: &[u8]) -> Kind
-    ensures { λ r. ⌜ ((p : ℕ) → r ≡ kind-of (letter-word p (now (word .entry)))) ⌝ }
-{
-    if starts_small(word) {
-        return Kind::Name;
-    }
-    capital_word(word)
-}
-
-// A word that starts with a capital: a keyword, or a class name.
-fn capital_word(word: &[u8]) -> Kind
+// A word of letters that starts with a capital: a keyword, or a class name.
+pub fn capital_word(word: &[u8]) -> Kind
     ensures { λ r. ⌜ ((p : ℕ) → r ≡ kind-of (capital-word keywords p (now (word .entry)))) ⌝ }
 {
     if is_same(word, b"CALL") {
@@ -127,17 +116,4 @@ fn later_capital_word(word: &[u8]) -> Kind
         return Kind::Fixed(fixed::WHILE);
     }
     Kind::Class
-}
-
-fn starts_small(word: &[u8]) -> bool
-    ensures { λ r. ⌜ r ≡ begins small (now (word .entry)) ⌝ }
-{
-    if word.len() == 0 {
-        return false;
-    }
-    let b = word[0];
-    match b {
-        b'a'..=b'z' => true,
-        _ => false,
-    }
 }

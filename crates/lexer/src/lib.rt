@@ -3,7 +3,7 @@ ghost use mathlib.Core.Path.{_≡_};
 ghost use mathlib.Core.Bool.{true};
 ghost use Prim.Native.Nat.{_+_, _-_, _<_, min};
 ghost use lib.ListN.{length, drop};
-ghost use Rattle.base.specs.Bytes.{separator, letter, digit, letter-or-digit, run, begins, value};
+ghost use Rattle.base.specs.Bytes.{separator, small, capital, digit, letter-or-digit, run, begins, value};
 ghost use Rattle.lexeme.specs.Lexemes.{word, string-at, symbols, symbol, colon, next};
 ghost use Rattle.lexeme.specs.inner.Coded.{coded};
 use base::Refusal;
@@ -39,15 +39,27 @@ fn value_of(word: &[u8]) -> u32
     value as u32
 }
 
-// A word that begins with a letter at p: all letters; one with a digit in it is mixed, and refused.
-fn letters_at(text: &[u8], p: usize) -> Found
-    requires { ⌜ begins letter (drop p (now text)) ≡ true ⌝ }
+// A word that begins with a small letter at p: a name, of all letters and digits that follow.
+fn name_at(text: &[u8], p: usize) -> Found
+    requires { ⌜ begins small (drop p (now text)) ≡ true ⌝ }
+    ensures { λ r. ⌜ r ≡ coded (word p (run letter-or-digit (drop p (now (text .entry))))) ⌝ }
+{
+    Found::Is(Lexeme {
+        kind: Kind::Name,
+        place: p,
+        end: base::run_end(text, p, Such::LetterOrDigit),
+    })
+}
+
+// A word that begins with a capital at p: all letters; one with a digit in it is mixed, and refused.
+fn capitals_at(text: &[u8], p: usize) -> Found
+    requires { ⌜ begins capital (drop p (now text)) ≡ true ⌝ }
     ensures { λ r. ⌜ r ≡ coded (word p (run letter-or-digit (drop p (now (text .entry))))) ⌝ }
 {
     let e = base::run_end(text, p, Such::Letter);
     if !base::is_at(text, e, Such::Digit) {
         return Found::Is(Lexeme {
-            kind: lexeme::letter_word(&text[p..e]),
+            kind: lexeme::capital_word(&text[p..e]),
             place: p,
             end: e,
         });
@@ -157,13 +169,10 @@ pub fn next(text: &[u8], at: usize) -> Found
         });
     }
     let b = text[p];
-    if base::is_such(Such::Letter, b) {
-        return letters_at(text, p);
-    }
-    if base::is_such(Such::Digit, b) {
-        return digits_at(text, p);
-    }
     match b {
+        b'a'..=b'z' => name_at(text, p),
+        b'A'..=b'Z' => capitals_at(text, p),
+        b'0'..=b'9' => digits_at(text, p),
         b'"' => string_at(text, p),
         b':' => colon_at(text, p),
         _ => symbol_at(b, p, p + 1),

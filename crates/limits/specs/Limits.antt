@@ -3,7 +3,7 @@ use Prim.Native.Nat.{ℕ}
 
 -- those of a lexeme: refusal 3
 pub record Sizes : Type 0 where
-  -- letters of a letter word
+  -- letters and digits of a name, letters of a class name
   pub word : ℕ
   -- bytes between a string's quotes
   pub string : ℕ

@@ -5,7 +5,7 @@ impl Limits {
     // Bytes of a text: refusal 1.
     pub const TEXT: usize = 16384;
 
-    // Letters of a letter word: refusal 3.
+    // Letters and digits of a name, letters of a class name: refusal 3.
     pub const WORD: usize = 32;
 
     // Bytes between a string's quotes: refusal 3.

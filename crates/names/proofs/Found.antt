@@ -45,8 +45,8 @@ module _ (text names : List ℕ) where
       by i true h = let m : min (suc v) (room names) ≡ suc v = omega (arith, ltb-true v (room names) h) in rw m (rw h)
       by i false h = let m : min (suc v) (room names) ≡ min v (room names) = omega (arith, ltb-false v (room names) h) in rw m i
 
-  pub found-room : (v k : ℕ) (word letters : List ℕ) → k ≡ min v (room names) → word ≡ letters → latest (visible-in text names k) word ≡ latest (visible-in text names v) letters
-  found-room v k word letters h e = rw (h, e, visible-room v)
+  pub found-room : (v k : ℕ) (word other : List ℕ) → k ≡ min v (room names) → word ≡ other → latest (visible-in text names k) word ≡ latest (visible-in text names v) other
+  found-room v k word other h e = rw (h, e, visible-room v)
 
   pub found-none : (word : List ℕ) (k : ℕ) → k ≤ 0 → Nowhere ≡ latest (visible-in text names k) word
   unfolding visible-in latest
@@ -54,14 +54,14 @@ module _ (text names : List ℕ) where
 
   -- a loop that goes down to the first declaration, at the k-th
   module _ (word : List ℕ) (k : ℕ) (some : 0 < k) (fits : k ≤ (room names)) where
-    last-visible : (t : Bool) → same (held text names (k - 1) .letters) word ≡ t → latest (visible-in text names k) word ≡ picked (held text names (k - 1)) (visible-in text names (k - 1)) word t
+    last-visible : (t : Bool) → same (held text names (k - 1) .spelled) word ≡ t → latest (visible-in text names k) word ≡ picked (held text names (k - 1)) (visible-in text names (k - 1)) word t
     unfolding latest
     last-visible t h =
         let e : k ≡ suc (k - 1) = omega arith in
         ap (λ (j : ℕ). latest (visible-in text names j) word) e ∙ (ap (λ (l : List Declaration). latest l word) (visible-suc (k - 1) (omega arith)) ∙ ap (picked (held text names (k - 1)) (visible-in text names (k - 1)) word) h)
 
-    pub found-last : same (held text names (k - 1) .letters) word ≡ true → At (held text names (k - 1) .cell) ≡ latest (visible-in text names k) word
+    pub found-last : same (held text names (k - 1) .spelled) word ≡ true → At (held text names (k - 1) .cell) ≡ latest (visible-in text names k) word
     found-last h = sym (last-visible true h)
 
-    pub found-before : same (held text names (k - 1) .letters) word ≡ false → latest (visible-in text names (k - 1)) word ≡ latest (visible-in text names k) word
+    pub found-before : same (held text names (k - 1) .spelled) word ≡ false → latest (visible-in text names (k - 1)) word ≡ latest (visible-in text names k) word
     found-before h = sym (last-visible false h)

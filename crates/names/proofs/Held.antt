@@ -48,41 +48,41 @@ abbrev answer : Name → N.Scope → Cell → Answer (Known ℕ)
 answer x s (At cell) = given (record { what = cell; scope = s })
 answer x s Nowhere = refused Undeclared (x .place)
 
-looked-up : (x : Name) (s : N.Scope) (ds : List Declaration) → look-up ds x s ≡ answer x s (latest ds (x .letters))
+looked-up : (x : Name) (s : N.Scope) (ds : List Declaration) → look-up ds x s ≡ answer x s (latest ds (x .spelled))
 unfolding look-up latest
 looked-up x s [] = refl
-looked-up x s (d ∷ ds) = by (looked-up x s ds) (same (d .letters) (x .letters))
+looked-up x s (d ∷ ds) = by (looked-up x s ds) (same (d .spelled) (x .spelled))
   where
-    by : look-up ds x s ≡ answer x s (latest ds (x .letters)) → (b : Bool) → elim b as (λ _. Answer (Known ℕ)) [ true ↦ given (record { what = d .cell; scope = s }) | false ↦ look-up ds x s ] ≡ answer x s (elim b as (λ _. Cell) [ true ↦ At (d .cell) | false ↦ latest ds (x .letters) ])
+    by : look-up ds x s ≡ answer x s (latest ds (x .spelled)) → (b : Bool) → elim b as (λ _. Answer (Known ℕ)) [ true ↦ given (record { what = d .cell; scope = s }) | false ↦ look-up ds x s ] ≡ answer x s (elim b as (λ _. Cell) [ true ↦ At (d .cell) | false ↦ latest ds (x .spelled) ])
     by i true = refl
     by i false = i
 
 module _ (text names : List ℕ) (x : Name) where
-  pub used-at : (cell : ℕ) → latest (visible-in text names (counts names .visible)) (x .letters) ≡ At cell → used x (scope-in text names) ≡ given (record { what = cell; scope = scope-in text names })
+  pub used-at : (cell : ℕ) → latest (visible-in text names (counts names .visible)) (x .spelled) ≡ At cell → used x (scope-in text names) ≡ given (record { what = cell; scope = scope-in text names })
   unfolding used scope-in
   used-at cell h = looked-up x (scope-in text names) (visible-in text names (counts names .visible)) ∙ ap (answer x (scope-in text names)) h
 
-  pub used-nowhere : latest (visible-in text names (counts names .visible)) (x .letters) ≡ Nowhere → used x (scope-in text names) ≡ refused Undeclared (x .place)
+  pub used-nowhere : latest (visible-in text names (counts names .visible)) (x .spelled) ≡ Nowhere → used x (scope-in text names) ≡ refused Undeclared (x .place)
   unfolding used scope-in
   used-nowhere h = looked-up x (scope-in text names) (visible-in text names (counts names .visible)) ∙ ap (answer x (scope-in text names)) h
 
 -- where the cells of visible declarations are below n, so is the one that is found
-module _ (text names : List ℕ) (n : ℕ) (letters : List ℕ) where
-  found-below : (k : ℕ) → ((i : ℕ) → i < k → getD names (5 + i * 4 + 2) 0 < n) → (cell : ℕ) → latest (visible-in text names k) letters ≡ At cell → cell < n
+module _ (text names : List ℕ) (n : ℕ) (word : List ℕ) where
+  found-below : (k : ℕ) → ((i : ℕ) → i < k → getD names (5 + i * 4 + 2) 0 < n) → (cell : ℕ) → latest (visible-in text names k) word ≡ At cell → cell < n
   unfolding visible-in held latest
   found-below zero low cell e = let z : _≡_ {A = ℕ} 0 1 = cc in absurd (omega arith)
   found-below (suc k) low cell e = by (found-below k (λ i h. low i (omega arith)) cell) (ltb k (room names)) e
     where
-      first : (latest (visible-in text names k) letters ≡ At cell → cell < n) → (b : Bool) → elim b as (λ _. Cell) [ true ↦ At (held text names k .cell) | false ↦ latest (visible-in text names k) letters ] ≡ At cell → cell < n
+      first : (latest (visible-in text names k) word ≡ At cell → cell < n) → (b : Bool) → elim b as (λ _. Cell) [ true ↦ At (held text names k .cell) | false ↦ latest (visible-in text names k) word ] ≡ At cell → cell < n
       first rest true e = let h : held text names k .cell ≡ cell = cc in omega (arith, low k (le-refl (suc k)))
       first rest false e = rest e
 
-      by : (latest (visible-in text names k) letters ≡ At cell → cell < n) → (b : Bool) → latest (cond b (held text names k ∷ visible-in text names k) (visible-in text names k)) letters ≡ At cell → cell < n
-      by rest true e = first rest (same (held text names k .letters) letters) e
+      by : (latest (visible-in text names k) word ≡ At cell → cell < n) → (b : Bool) → latest (cond b (held text names k ∷ visible-in text names k) (visible-in text names k)) word ≡ At cell → cell < n
+      by rest true e = first rest (same (held text names k .spelled) word) e
       by rest false e = rest e
 
-pub found-low : (text names : List ℕ) (letters : List ℕ) (cell : ℕ) → Sound names → latest (visible-in text names (counts names .visible)) letters ≡ At cell → cell < counts names .declared
-found-low text names letters cell s e = found-below text names (counts names .declared) letters (counts names .visible) (s .low) cell e
+pub found-low : (text names : List ℕ) (word : List ℕ) (cell : ℕ) → Sound names → latest (visible-in text names (counts names .visible)) word ≡ At cell → cell < counts names .declared
+found-low text names word cell s e = found-below text names (counts names .declared) word (counts names .visible) (s .low) cell e
 
 -- ---- what stays so
 
@@ -226,21 +226,21 @@ module _ (names : List ℕ) (p e : ℕ) (sound : Sound names) where
         below k h = ⊎-elim (λ (e : k ≡ s .visible). rw e (omega (arith, after-entry 2 (omega arith), sound .next-cell))) (λ (q : k < s .visible). omega (arith, after-entries (5 + k * 4 + 2) (omega arith) (omega arith), sound .low k q)) (eq-or-lt-of-le h)
 
     module _ (text : List ℕ) where
-      after-held : held text after (s .visible) ≡ record { letters = part text p e; cell = s .«next_cell»; block = s .blocks }
+      after-held : held text after (s .visible) ≡ record { spelled = part text p e; cell = s .«next_cell»; block = s .blocks }
       unfolding held
       after-held = rw (ap (λ (i : ℕ). getD after i 0) (sym (add-zero (5 + s .visible * 4))) ∙ after-entry 0 (omega arith), after-entry 1 (omega arith), after-entry 2 (omega arith), after-entry 3 (omega arith))
 
-      after-visible : visible-in text after (suc (s .visible)) ≡ record { letters = part text p e; cell = s .«next_cell»; block = s .blocks } ∷ visible-in text names (s .visible)
+      after-visible : visible-in text after (suc (s .visible)) ≡ record { spelled = part text p e; cell = s .«next_cell»; block = s .blocks } ∷ visible-in text names (s .visible)
       after-visible = visible-suc text after (s .visible) (omega (arith, after-long, sound .visible)) ∙ rw (after-held, same-visible text names after after-long (s .visible) after-entries)
 
-      after-scope : (x : Name) → x .letters ≡ part text p e → scope-in text after ≡ one-more x (scope-in text names)
+      after-scope : (x : Name) → x .spelled ≡ part text p e → scope-in text after ≡ one-more x (scope-in text names)
       unfolding scope-in one-more
       after-scope x h = ap shown after-counts ∙ rw (after-visible, h) refl
         where
           shown : Scope → N.Scope
           shown c = record { visible = visible-in text after (c .visible); declared = c .declared; next-cell = c .«next_cell»; cells = c .cells; blocks = c .blocks }
 
-      pub declared-given : (x : Name) → x .letters ≡ part text p e → declared-here (room names) x (scope-in text names) ≡ given (record { what = s .«next_cell»; scope = scope-in text (declared-in names p e) })
+      pub declared-given : (x : Name) → x .spelled ≡ part text p e → declared-here (room names) x (scope-in text names) ≡ given (record { what = s .«next_cell»; scope = scope-in text (declared-in names p e) })
       unfolding declared-here scope-in
       declared-given x h = rw (lt-ltb (s .declared) (room names) few) (ap (λ (k : N.Scope). given (record { what = s .«next_cell»; scope = k })) (sym (ap (scope-in text) after-is ∙ after-scope x h)))
 

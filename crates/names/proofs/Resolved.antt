@@ -52,7 +52,7 @@ module _ (limit : ℕ) where
     looks : (x : Name) (s : Scope) → Right s → (vs : List Declaration) → Low (s .cells) vs → If-given (λ c. c < d) s (look-up vs x s)
     unfolding look-up If-given Low
     looks x s r [] l = tt
-    looks x s r (v ∷ vs) l = by (same (v .letters) (x .letters)) (looks x s r vs (l .1))
+    looks x s r (v ∷ vs) l = by (same (v .spelled) (x .spelled)) (looks x s r vs (l .1))
       where
         by : (b : Bool) → If-given (λ c. c < d) s (look-up vs x s) → If-given (λ c. c < d) s (elim b as (λ _. Answer (Known ℕ)) [ true ↦ given (record { what = v .cell; scope = s }) | false ↦ look-up vs x s ])
         by true w = record { right = r; grown = le-refl (s .cells); has = λ h. le-trans (l .0) h }

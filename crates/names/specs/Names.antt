@@ -9,9 +9,9 @@ use Rattle.base.specs.Bytes.{same}
 use Rattle.lexeme.specs.Lexemes.{Name}
 use Rattle.sentence.specs.Sentences.{Kind, Sen, command, literal, variable, bracket, first, multiply, unsigned, signed, add, negated, compare, print, print-line, print-string, declare, input, assign, error, while, when, block, single, then}
 
--- a declaration: its letters, its cell, and the block that it stands in: how many are open there
+-- a declaration: how its name is spelled, its cell, and the block that it stands in: how many are open there
 pub record Declaration : Type 0 where
-  pub letters : List ℕ
+  pub spelled : List ℕ
   pub cell : ℕ
   pub block : ℕ
 
@@ -49,7 +49,7 @@ give a = λ s. given (record { what = a; scope = s })
 -- the latest declaration of the name that is still visible
 unfoldable pub look-up : List Declaration → Name → Naming ℕ
 look-up [] x s = refused Undeclared (x .place)
-look-up (d ∷ ds) x s = elim (same (d .letters) (x .letters)) [ true ↦ given (record { what = d .cell; scope = s }) | false ↦ look-up ds x s ]
+look-up (d ∷ ds) x s = elim (same (d .spelled) (x .spelled)) [ true ↦ given (record { what = d .cell; scope = s }) | false ↦ look-up ds x s ]
 
 unfoldable pub used : Name → Naming ℕ
 used x = λ s. look-up (s .visible) x s
@@ -57,7 +57,7 @@ used x = λ s. look-up (s .visible) x s
 -- one declaration more. Cell k, one-up from 0, belongs to the k-th declaration in the text; cells aren't shared.
 unfoldable pub one-more : Name → Scope → Scope
 one-more x s = record {
-  visible = record { letters = x .letters; cell = s .next-cell; block = s .blocks } ∷ s .visible;
+  visible = record { spelled = x .spelled; cell = s .next-cell; block = s .blocks } ∷ s .visible;
   declared = suc (s .declared);
   next-cell = suc (s .next-cell);
   cells = suc (s .cells);

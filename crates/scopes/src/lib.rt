@@ -92,10 +92,10 @@ fn is_other(text: &[u8], p: usize, word: &[u8]) -> bool
     text[p] != word[0]
 }
 
-// Whether the k-th declaration of the list has these letters. Most begin with another letter.
+// Whether the k-th declaration of the list is spelled like the word. Most begin with another letter.
 fn is_named(text: &[u8], names: &[usize], k: usize, word: &[u8]) -> bool
     requires { ⌜ k < room (now names) ⌝ }
-    ensures { λ r. ⌜ r ≡ same (held (now (text .entry)) (now (names .entry)) k .letters) (now (word .entry)) ⌝ }
+    ensures { λ r. ⌜ r ≡ same (held (now (text .entry)) (now (names .entry)) k .spelled) (now (word .entry)) ⌝ }
 {
     let at = COUNTS + k * ENTRY;
     let p = names[at];

@@ -66,8 +66,8 @@ sound ls m e = rw e at (fed want-DO ls (rw e tt))
 zero-expression : Sen Name expression
 zero-expression = unsigned (first (literal 0))
 
-no-letters : Name
-no-letters = record { letters = []; place = 0 }
+no-name : Name
+no-name = record { spelled = []; place = 0 }
 
 no-bytes : Quoted
 no-bytes = record { inside = []; place = 0 }
@@ -115,8 +115,8 @@ state-begins (want-condition k) a = begun k (compare zero-expression less zero-e
 state-begins (want-command k) a = begun k error _ (fixed ERROR ∷ []) refl
 state-begins (want-line k) a = begun k (print-line no-bytes) _ (string no-bytes ∷ []) (simp append-assoc)
 state-begins (want-string k) a = begun k (print-string no-bytes) _ (string no-bytes ∷ []) (simp append-assoc)
-state-begins (want-declared k) a = begun k (declare no-letters) _ (name no-letters ∷ []) (simp append-assoc)
-state-begins (want-read k) a = begun k (input no-letters) _ (name no-letters ∷ []) (simp append-assoc)
+state-begins (want-declared k) a = begun k (declare no-name) _ (name no-name ∷ []) (simp append-assoc)
+state-begins (want-read k) a = begun k (input no-name) _ (name no-name ∷ []) (simp append-assoc)
 state-begins (want-becomes x k) a = begun k (assign x zero-expression) _ (fixed becomes ∷ lit 0 ∷ []) (simp append-assoc)
 state-begins (got-term t k) a = begun k t _ [] (sym (append-nil _))
 state-begins (got-command m k) a = begun k m _ [] (sym (append-nil _))

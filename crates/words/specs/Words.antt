@@ -27,12 +27,12 @@ refusals =
     bytes "The text is longer than # bytes. Make it shorter.\n" ++
     bytes "This string is never closed. Is a quote missing at its end?\n" ++
     bytes "A colon stands only before =, as in t := 1.\n" ++
-    bytes "This word mixes letters and digits. A name has only letters, a number only digits.\n" ++
+    bytes "This word mixes letters and digits. Only a name may, and a name begins with a small letter.\n" ++
     bytes "O has only plain characters. Is this a quotation mark of another kind? A string stands between two of these: \"\n" ++
     bytes "O does not use this character.\n" ++
     bytes "This string has more than # bytes between its quotes. Print it in parts.\n" ++
     bytes "This number is larger than #, the largest there is.\n" ++
-    bytes "This word has more than # letters. Choose a shorter one.\n" ++
+    bytes "This word has more than # letters and digits. Choose a shorter one.\n" ++
     bytes "The text ends here, and the program is not finished. Is a } or a command missing?\n" ++
     bytes "This cannot stand here. Read the sentence aloud up to the mark: what should follow?\n" ++
     bytes "This is too deep: of ( { IF WHILE NOT only # may be open at once. Split the sentence.\n" ++

@@ -186,12 +186,12 @@ pub fn put_why(
         b"The text is longer than # bytes. Make it shorter.
 This string is never closed. Is a quote missing at its end?
 A colon stands only before =, as in t := 1.
-This word mixes letters and digits. A name has only letters, a number only digits.
+This word mixes letters and digits. Only a name may, and a name begins with a small letter.
 O has only plain characters. Is this a quotation mark of another kind? A string stands between two of these: \"
 O does not use this character.
 This string has more than # bytes between its quotes. Print it in parts.
 This number is larger than #, the largest there is.
-This word has more than # letters. Choose a shorter one.
+This word has more than # letters and digits. Choose a shorter one.
 The text ends here, and the program is not finished. Is a } or a command missing?
 This cannot stand here. Read the sentence aloud up to the mark: what should follow?
 This is too deep: of ( { IF WHILE NOT only # may be open at once. Split the sentence.

@@ -28,7 +28,7 @@ returns c =
     Answers.number Answers.pass
     Bytes.bytes-from Bytes.bytes Bytes.separator Bytes.small Bytes.capital Bytes.letter Bytes.digit Bytes.letter-or-digit Bytes.no-quote Bytes.run Bytes.begins Bytes.all Bytes.same Bytes.value
     Coded.code-of
-    Lexemes.found Lexemes.keywords Lexemes.capital-word Lexemes.letter-word Lexemes.word Lexemes.string-at Lexemes.symbols Lexemes.symbol Lexemes.colon Lexemes.here Lexemes.next Lexemes.too-large Lexemes.sized Lexemes.lexemes-from Lexemes.lexemes
+    Lexemes.found Lexemes.keywords Lexemes.capital-word Lexemes.word Lexemes.string-at Lexemes.symbols Lexemes.symbol Lexemes.colon Lexemes.here Lexemes.next Lexemes.too-large Lexemes.sized Lexemes.lexemes-from Lexemes.lexemes
     Sentences.program Sentences.program-nestings
     Reader.depth Reader.is Reader.on Reader.on-lit Reader.on-name Reader.on-string Reader.on-sign Reader.on-mul Reader.on-rel Reader.got-factor Reader.at-factor Reader.at-expression Reader.at-condition Reader.at-command Reader.at-command-or-brace Reader.after-command Reader.after-condition Reader.whole-expression Reader.after-expression Reader.whole-term Reader.after-term Reader.step Reader.verdict Reader.read-from Reader.read
     Names._>>=_ Names.give Names.look-up Names.used Names.one-more Names.declared-here Names.opened Names.closed Names.scoped Names.resolve Names.resolved

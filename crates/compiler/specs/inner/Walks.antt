@@ -157,7 +157,7 @@ Reads-read = Reads command want-read after-command
 
 -- the code's lexeme l as a name
 unfoldable pub name-of : List ℕ → Lexeme → Name
-name-of text l = record { letters = part text (l .place) (l .end); place = l .place }
+name-of text l = record { spelled = part text (l .place) (l .end); place = l .place }
 
 abbrev pub Reads-assign : Lexeme → Reading
 Reads-assign l = λ text. Reads command (want-becomes (name-of text l)) after-command text

@@ -59,7 +59,7 @@ code-of USING = 20
 code-of WHILE = 21
 code-of end = 0
 
--- the letters of a word and the bytes of a string stand in the text; of a literal beyond the code's numbers, the largest of them
+-- the bytes of a word and of a string stand in the text; of a literal beyond the code's numbers, the largest of them
 unfoldable pub kind-of : lexemes.Lexeme → Kind
 kind-of (lit n) = kind.Literal (min n 4294967295)
 kind-of (name n) = kind.Name
@@ -110,8 +110,8 @@ fixed-of n = fixed-in fixeds n
 -- what the code's lexeme of a kind, from the place p up to e, is in the text
 unfoldable pub what-of : List ℕ → ℕ → ℕ → Kind → lexemes.Lexeme
 what-of text p e (kind.Literal n) = lit n
-what-of text p e kind.Name = name (record { letters = part text p e; place = p })
-what-of text p e kind.Class = class (record { letters = part text p e; place = p })
+what-of text p e kind.Name = name (record { spelled = part text p e; place = p })
+what-of text p e kind.Class = class (record { spelled = part text p e; place = p })
 what-of text p e kind.Str = string (record { inside = part text (p + 1) (e - 1); place = p + 1 })
 what-of text p e (kind.Fixed n) = fixed (fixed-of n)
 

@@ -32,9 +32,9 @@ one-up n = min (suc n) 18446744073709551615
 abbrev pub room : List ℕ → ℕ
 room names = (length names - 5) / 4
 
--- the k-th: its letters from one place of the text up to another, its cell, its block
+-- the k-th: spelled from one place of the text up to another, its cell, its block
 unfoldable pub held : List ℕ → List ℕ → ℕ → Declaration
-held text names k = record { letters = part text (getD names (5 + k * 4) 0) (getD names (5 + k * 4 + 1) 0); cell = getD names (5 + k * 4 + 2) 0; block = getD names (5 + k * 4 + 3) 0 }
+held text names k = record { spelled = part text (getD names (5 + k * 4) 0) (getD names (5 + k * 4 + 1) 0); cell = getD names (5 + k * 4 + 2) 0; block = getD names (5 + k * 4 + 3) 0 }
 
 -- the first k, the latest first, as far as the list has room
 unfoldable pub visible-in : List ℕ → List ℕ → ℕ → List Declaration
@@ -47,10 +47,10 @@ scope-in text names = record { visible = visible-in text names (counts names .vi
 
 -- ---- a use
 
--- the cell of the latest declaration with these letters
+-- the cell of the latest declaration that is spelled so
 unfoldable pub latest : List Declaration → List ℕ → Cell
-latest [] letters = Nowhere
-latest (d ∷ ds) letters = elim (same (d .letters) letters) [ true ↦ At (d .cell) | false ↦ latest ds letters ]
+latest [] word = Nowhere
+latest (d ∷ ds) word = elim (same (d .spelled) word) [ true ↦ At (d .cell) | false ↦ latest ds word ]
 
 -- ---- a declaration of the name from p up to e
 

@@ -1,25 +1,25 @@
--- `lexer::letters_at` meets its contract. Assumes nothing.
+-- `lexer::capitals_at` meets its contract. Assumes nothing.
 use mathlib.Core.Path.{sym, ap, _∙_}
 use native.Mathlib.Omega.{arith}
 use denote.Ref.{now}
 use lib.ListN.{drop, length-drop}
 use borrow.Author.Needs.{needs}
 use borrow.Author.Tests.{not-true, not-false}
-use Rattle.base.specs.Bytes.{letter}
+use Rattle.base.specs.Bytes.{letter, capital}
 use Rattle.base.specs.inner.Kinds.{such}
 use Rattle.base.proofs.Runs.{run-part, run-fits, begins-within}
 use Rattle.lexeme.specs.Lexemes.{found}
 use Rattle.lexeme.specs.inner.Coded.{coded, kind-of}
-use Rattle.lexeme.proofs.Words.{letters-alone, letters-mixed}
-use Rattle.lexer.proofs.letters_at.Statement.{statement}
-use Rattle.lexer.proofs.letters_at.Tie as tie
+use Rattle.lexeme.proofs.Words.{capitals-alone, capitals-mixed}
+use Rattle.lexer.proofs.capitals_at.Statement.{statement}
+use Rattle.lexer.proofs.capitals_at.Tie as tie
 
-part-letter-word-end : tie.Need-part-letter-word-end
+part-capital-word-end : tie.Need-part-capital-word-end
 unfolding such
-part-letter-word-end c =
+part-capital-word-end c =
     let text = now (c .before .before .before .before .args .text) in
     let p = c .before .before .before .before .args .p in
-    omega (arith, begins-within letter text p (c .before .before .before .before .pre), c .before .before .run-end .ensures, run-fits letter (drop p text), length-drop p text)
+    omega (arith, begins-within capital text p (c .before .before .before .before .pre), c .before .before .run-end .ensures, run-fits letter (drop p text), length-drop p text)
 
 returns : tie.Need-returns
 unfolding such coded found kind-of
@@ -27,21 +27,21 @@ returns c =
     let p = c .before .before .before .before .before .before .args .p in
     let e = c .before .before .before .before .run-end .ensures in
     let n = sym (c .before .before .before .is-at .ensures) ∙ not-true _ (c .before .before .if1 .taken) in
-    rw (letters-alone _ _ _ e n, ← run-part letter _ p _ e, c .letter-word .ensures p)
+    rw (capitals-alone _ _ _ e (c .before .before .before .before .before .before .pre) n, ← run-part letter _ p _ e, c .capital-word .ensures p)
 
 returns-2 : tie.Need-returns-2
 unfolding such coded
-returns-2 c = let n = sym (c .before .is-at .ensures) ∙ not-false _ (c .if1 .left) in sym (ap coded (letters-mixed _ _ _ (c .before .before .run-end .ensures) (c .before .before .before .before .pre) n))
+returns-2 c = let n = sym (c .before .is-at .ensures) ∙ not-false _ (c .if1 .left) in sym (ap coded (capitals-mixed _ _ _ (c .before .before .run-end .ensures) (c .before .before .before .before .pre) n))
 
-pub letters-at-spec : {M : Type 1} → statement M
-letters-at-spec =
+pub capitals-at-spec : {M : Type 1} → statement M
+capitals-at-spec =
     tie.close
     (tie.spec
     (λ c κs. search needs)
     (λ c κs. search needs)
     (λ c. search needs)
     (λ c. search needs)
-    part-letter-word-end
+    part-capital-word-end
     (λ c κs. search needs)
     returns
     returns-2)
