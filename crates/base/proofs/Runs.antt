@@ -8,7 +8,7 @@ use native.Mathlib.Numerals.{add-one}
 use native.Mathlib.Omega.{arith}
 use lib.Dec.{leb, ltb}
 use borrow.Author.Tests.{le-leb, lt-leb, leb-true, ltb-true, ltb-false}
-use lib.ListN.{length, getD, take, drop, drop-of-length-le}
+use lib.ListN.{length, getD, take, drop, drop-of-length-le, length-drop}
 use lib.Seq.{drop-cons}
 use Rattle.base.specs.Bytes.{between, letter, small, capital, digit, letter-or-digit, run, begins, all}
 
@@ -47,6 +47,10 @@ module _ (such : ℕ → Bool) where
       by-test : length (run such s) ≤ length s → (t : Bool) → length (after b s t) ≤ suc (length s)
       by-test h true = omega arith
       by-test h false = omega arith
+
+  -- a run from the place p on ends within s
+  pub run-within : (s : List ℕ) (p e : ℕ) → p ≤ length s → e ≡ p + length (run such (drop p s)) → e ≤ length s
+  run-within s p e h k = omega (arith, run-fits (drop p s), length-drop p s)
 
   -- a loop over a run, at the place where it stands
   module _ (s : List ℕ) (i : ℕ) where
@@ -151,16 +155,21 @@ module _ (low high b : ℕ) where
       by true e = lt-leb b high (h (leb-true low b e))
       by false e = refl
 
-  at-most : between low high b ≡ true → b ≤ high
-  at-most h = by (leb low b) h
-    where
-      by : (t : Bool) → (t && leb b high) ≡ true → b ≤ high
-      by true h = leb-true b high h
-      by false h = let z : _≡_ {A = ℕ} 0 1 = cc in absurd (omega arith)
+second : (a b : Bool) → (a && b) ≡ true → b ≡ true
+second true b h = h
+second false b h = let z : _≡_ {A = ℕ} 0 1 = cc in absurd (omega arith)
+
+not-first : (a b : Bool) → (a || b) ≡ false → a ≡ false
+not-first true b h = let z : _≡_ {A = ℕ} 0 1 = cc in absurd (omega arith)
+not-first false b h = refl
 
 pub digit-apart : (b : ℕ) → digit b ≡ true → letter b ≡ false
 unfolding digit letter small capital
-digit-apart b h = let n = at-most 48 57 b h in rw (lt-leb 97 b (omega arith), lt-leb 65 b (omega arith))
+digit-apart b h = let n = leb-true b 57 (second (leb 48 b) (leb b 57) h) in rw (lt-leb 97 b (omega arith), lt-leb 65 b (omega arith))
+
+pub digit-not-small : (b : ℕ) → digit b ≡ true → small b ≡ false
+unfolding letter
+digit-not-small b h = not-first (small b) (capital b) (digit-apart b h)
 
 pub letter-apart : (b : ℕ) → letter b ≡ true → digit b ≡ false
 letter-apart b h = by (digit b) refl
@@ -178,30 +187,18 @@ unfolding letter-or-digit
 digits-first b = or-comm (letter b) (digit b)
 
 module _ (b : ℕ) where
+  pub small-is : small b ≡ true → letter b ≡ true
+  unfolding letter
+  small-is h = rw h
+
   pub letter-is : letter b ≡ true → letter-or-digit b ≡ true
   unfolding letter-or-digit
   letter-is h = rw h
-
-  pub small-is : small b ≡ true → letter-or-digit b ≡ true
-  unfolding letter-or-digit letter
-  small-is h = rw h
-
-  pub capital-apart : capital b ≡ true → small b ≡ false
-  unfolding capital small
-  capital-apart h = let n = at-most 65 90 b h in rw (lt-leb 97 b (omega arith))
-
-  pub capital-is : capital b ≡ true → letter b ≡ true
-  unfolding letter
-  capital-is h = rw (capital-apart h, h)
-
-  pub digit-not-small : digit b ≡ true → small b ≡ false
-  unfolding digit small
-  digit-not-small h = let n = at-most 48 57 b h in rw (lt-leb 97 b (omega arith))
 
   pub digit-is : digit b ≡ true → letter-or-digit b ≡ true
   unfolding letter-or-digit
   digit-is h = rw (digit-apart b h, h)
 
-  pub neither-is : (48 ≤ b → 57 < b) → (65 ≤ b → 90 < b) → (97 ≤ b → 122 < b) → letter-or-digit b ≡ false
-  unfolding letter-or-digit letter small capital digit
-  neither-is d c s = rw (between-no 97 122 b s, between-no 65 90 b c, between-no 48 57 b d)
+  pub neither-is : letter b ≡ false → digit b ≡ false → letter-or-digit b ≡ false
+  unfolding letter-or-digit
+  neither-is h k = rw (h, k)

@@ -3,7 +3,7 @@ ghost use mathlib.Core.Path.{_≡_};
 ghost use Prim.Native.Nat.{_+_, min};
 ghost use lib.IntN.{pos};
 ghost use lib.ListN.{length, drop, replicate};
-ghost use Rattle.base.specs.Bytes.{separator, letter, digit, run, begins, same};
+ghost use Rattle.base.specs.Bytes.{separator, small, letter, digit, run, begins, same};
 ghost use Rattle.base.specs.inner.Parts.{part};
 ghost use Rattle.base.specs.inner.Kinds.{such};
 ghost use Rattle.base.specs.Answers.{number};
@@ -39,6 +39,7 @@ pub fn number(why: Refusal) -> u8
 // The bytes that a run is made of.
 pub enum Such {
     Separator,
+    Small,
     Letter,
     LetterOrDigit,
     Digit,
@@ -50,6 +51,15 @@ pub fn is_separator(b: u8) -> bool
 {
     match b {
         b' ' | 9 | 10 | 13 => true,
+        _ => false,
+    }
+}
+
+fn is_small(b: u8) -> bool
+    ensures { λ r. ⌜ r ≡ small b ⌝ }
+{
+    match b {
+        b'a'..=b'z' => true,
         _ => false,
     }
 }
@@ -77,6 +87,7 @@ pub fn is_such(kind: Such, b: u8) -> bool
 {
     match kind {
         Such::Separator => is_separator(b),
+        Such::Small => is_small(b),
         Such::Letter => is_letter(b),
         Such::LetterOrDigit => is_letter(b) || is_digit(b),
         Such::Digit => is_digit(b),

@@ -14,7 +14,7 @@ use Rattle.base.specs.declared.Refusal.{Refusal}
 use Rattle.base.specs.Answers.{Answer, given, refused}
 use Rattle.base.specs.Bytes.{separator, small, letter, digit, letter-or-digit, no-quote, run, begins, all, same, value}
 use Rattle.base.specs.inner.Parts.{part}
-use Rattle.base.proofs.Runs.{run-part, run-yes, run-fits}
+use Rattle.base.proofs.Runs.{run-part, run-yes, run-fits, run-within}
 use Rattle.lexeme.specs.Lexemes.{Name, Quoted, Lexeme, lit, name, class, string, fixed, Placed, Next, lexeme, nothing, found, Keyword, keywords, capital-word, Sizes, word, string-at, Symbol, symbols, symbol, colon, here, next, too-large}
 use Rattle.lexeme.specs.Lexemes as lexemes
 use Rattle.lexeme.specs.inner.Coded.{kind-of, coded, code-of, what-of, told, placed, Ends, Stands, large}
@@ -145,7 +145,7 @@ module _ (text : List ℕ) (p : ℕ) where
           let h : p < length text = ltb-true p (length text) within in
           let w = run letter-or-digit (drop p text) in
           rw (here-word text p h l)
-          (word-good w (run-part letter-or-digit text p (p + length w) refl) (rw (drop-cons text p 0 h, run-yes letter-or-digit (getD text p 0) (drop (suc p) text) l) (omega arith)) (omega (arith, run-fits letter-or-digit (drop p text), length-drop p text)))
+          (word-good w (run-part letter-or-digit text p (p + length w) refl) (rw (drop-cons text p 0 h, run-yes letter-or-digit (getD text p 0) (drop (suc p) text) l) (omega arith)) (run-within letter-or-digit text p (p + length w) (omega arith) refl))
       by-tests true false within l =
           let h : p < length text = ltb-true p (length text) within in
           let b = getD text p 0 in

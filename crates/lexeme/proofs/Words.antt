@@ -9,8 +9,8 @@ use lib.Seq.{drop-drop}
 use borrow.Author.Tests.{le-leb, lt-leb}
 use Rattle.base.specs.declared.Refusal.the-variants.{NoLexeme}
 use Rattle.base.specs.Answers.{refused}
-use Rattle.base.proofs.Runs.{all-own, begins-as, run-begins, run-alone, run-mixed, run-begun, capital-apart, capital-is, small-is, letter-is, digit-is, digit-not-small, digit-apart, letter-apart, letters-first, digits-first}
-use Rattle.base.specs.Bytes.{small, capital, letter, digit, letter-or-digit, no-quote, run, begins, all, same, value}
+use Rattle.base.proofs.Runs.{all-own, begins-as, run-begins, run-alone, run-mixed, run-begun, small-is, letter-is, digit-is, digit-not-small, digit-apart, letter-apart, letters-first, digits-first}
+use Rattle.base.specs.Bytes.{small, letter, digit, letter-or-digit, no-quote, run, begins, all, same, value}
 use Rattle.lexeme.specs.Lexemes.{Keyword, keywords, lit, name, fixed, capital-word, word, string, string-at, found}
 use Rattle.lexeme.specs.inner.Coded.{code-of, kind-of}
 use Rattle.lexeme.specs.declared.Kind.{Kind}
@@ -46,31 +46,28 @@ module _ (text : List ℕ) (p e : ℕ) where
   after-run : (such other : ℕ → Bool) {t : Bool} → e ≡ p + length (run such (drop p text)) → begins other (drop e text) ≡ t → begins other (drop (length (run such (drop p text))) (drop p text)) ≡ t
   after-run such other h b = rw (drop-drop (length (run such (drop p text))) p text, ← h) b
 
-  -- a word that begins with a byte of a kind that is not small starts no name
-  not-small : (first : ℕ → Bool) → ((b : ℕ) → first b ≡ true → letter-or-digit b ≡ true) → ((b : ℕ) → first b ≡ true → small b ≡ false) → begins first (drop p text) ≡ true → begins small whole ≡ false
-  not-small first is apart b = run-begins letter-or-digit small (drop p text) (begins-as first letter-or-digit is (drop p text) b) ∙ begins-as first small apart (drop p text) b
+  -- a word begins as the text does at p, where a letter or a digit stands
+  begun : (first : ℕ → Bool) → ((b : ℕ) → first b ≡ true → letter-or-digit b ≡ true) → begins first (drop p text) ≡ true → begins small whole ≡ begins small (drop p text)
+  begun first is b = run-begins letter-or-digit small (drop p text) (begins-as first letter-or-digit is (drop p text) b)
 
   pub name-alone : e ≡ p + length whole → begins small (drop p text) ≡ true → word p whole ≡ found p (name (record { spelled = whole; place = p })) e
   unfolding word
-  name-alone run-ends b = rw (run-begins letter-or-digit small (drop p text) (begins-as small letter-or-digit small-is (drop p text) b), b, run-ends) refl
+  name-alone run-ends b = rw (begun small (λ c h. letter-is c (small-is c h)) b, b, run-ends) refl
 
-  module _ (run-ends : e ≡ p + length (run letter (drop p text))) (b : begins capital (drop p text) ≡ true) where
-    capital-first : begins small whole ≡ false
-    capital-first = not-small capital (λ c h. letter-is c (capital-is c h)) capital-apart b
-
+  module _ (run-ends : e ≡ p + length (run letter (drop p text))) (b : begins letter (drop p text) ≡ true) (not-small : begins small (drop p text) ≡ false) where
     pub capitals-alone : begins digit (drop e text) ≡ false → word p whole ≡ found p (capital-word keywords p (run letter (drop p text))) e
     unfolding word
     capitals-alone n =
         let same = run-alone letter digit letter-or-digit letters-first (drop p text) (after-run letter digit run-ends n) in
-        rw (capital-first, same, all-own letter (drop p text), run-ends) refl
+        rw (begun letter letter-is b, not-small, same, all-own letter (drop p text), run-ends) refl
 
     pub capitals-mixed : begins digit (drop e text) ≡ true → word p whole ≡ refused NoLexeme p
     unfolding word
-    capitals-mixed n = rw (capital-first, run-mixed letter digit letter-or-digit letters-first (drop p text) (after-run letter digit run-ends n), run-begun letter digit letter-or-digit letters-first letter-apart (drop p text) (begins-as capital letter capital-is (drop p text) b))
+    capitals-mixed n = rw (begun letter letter-is b, not-small, run-mixed letter digit letter-or-digit letters-first (drop p text) (after-run letter digit run-ends n), run-begun letter digit letter-or-digit letters-first letter-apart (drop p text) b)
 
   module _ (run-ends : e ≡ p + length (run digit (drop p text))) (b : begins digit (drop p text) ≡ true) where
-    digit-first : begins small whole ≡ false
-    digit-first = not-small digit digit-is digit-not-small b
+    no-name : begins small whole ≡ false
+    no-name = begun digit digit-is b ∙ begins-as digit small digit-not-small (drop p text) b
 
     no-letters : all letter whole ≡ false
     no-letters = run-begun digit letter letter-or-digit digits-first digit-apart (drop p text) b
@@ -79,11 +76,11 @@ module _ (text : List ℕ) (p e : ℕ) where
     unfolding word
     digits-alone n =
         let same = run-alone digit letter letter-or-digit digits-first (drop p text) (after-run digit letter run-ends n) in
-        rw (digit-first, no-letters, same, all-own digit (drop p text), run-ends) refl
+        rw (no-name, no-letters, same, all-own digit (drop p text), run-ends) refl
 
     pub digits-mixed : begins letter (drop e text) ≡ true → word p whole ≡ refused NoLexeme p
     unfolding word
-    digits-mixed n = rw (digit-first, no-letters, run-mixed digit letter letter-or-digit digits-first (drop p text) (after-run digit letter run-ends n))
+    digits-mixed n = rw (no-name, no-letters, run-mixed digit letter letter-or-digit digits-first (drop p text) (after-run digit letter run-ends n))
 
 -- a string whose opening quote is at p, where e is the place of the next quote, or the text's length
 module _ (text : List ℕ) (p e : ℕ) (run-ends : e ≡ p + 1 + length (run no-quote (drop (p + 1) text))) where

@@ -1,9 +1,9 @@
 // The reader of lexemes: the next one of a text, or refusal 2. It knows no limits.
 ghost use mathlib.Core.Path.{_≡_};
-ghost use mathlib.Core.Bool.{true};
+ghost use mathlib.Core.Bool.{true, false};
 ghost use Prim.Native.Nat.{_+_, _-_, _<_, min};
 ghost use lib.ListN.{length, drop};
-ghost use Rattle.base.specs.Bytes.{separator, small, capital, digit, letter-or-digit, run, begins, value};
+ghost use Rattle.base.specs.Bytes.{separator, small, letter, digit, letter-or-digit, run, begins, value};
 ghost use Rattle.lexeme.specs.Lexemes.{word, string-at, symbols, symbol, colon, next};
 ghost use Rattle.lexeme.specs.inner.Coded.{coded};
 use base::Refusal;
@@ -53,7 +53,7 @@ fn name_at(text: &[u8], p: usize) -> Found
 
 // A word that begins with a capital at p: all letters; one with a digit in it is mixed, and refused.
 fn capitals_at(text: &[u8], p: usize) -> Found
-    requires { ⌜ begins capital (drop p (now text)) ≡ true ⌝ }
+    requires { ⌜ (begins letter (drop p (now text)) ≡ true) × (begins small (drop p (now text)) ≡ false) ⌝ }
     ensures { λ r. ⌜ r ≡ coded (word p (run letter-or-digit (drop p (now (text .entry))))) ⌝ }
 {
     let e = base::run_end(text, p, Such::Letter);
@@ -169,10 +169,16 @@ pub fn next(text: &[u8], at: usize) -> Found
         });
     }
     let b = text[p];
+    if base::is_such(Such::Small, b) {
+        return name_at(text, p);
+    }
+    if base::is_such(Such::Letter, b) {
+        return capitals_at(text, p);
+    }
+    if base::is_such(Such::Digit, b) {
+        return digits_at(text, p);
+    }
     match b {
-        b'a'..=b'z' => name_at(text, p),
-        b'A'..=b'Z' => capitals_at(text, p),
-        b'0'..=b'9' => digits_at(text, p),
         b'"' => string_at(text, p),
         b':' => colon_at(text, p),
         _ => symbol_at(b, p, p + 1),

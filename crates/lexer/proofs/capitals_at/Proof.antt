@@ -2,12 +2,11 @@
 use mathlib.Core.Path.{sym, ap, _∙_}
 use native.Mathlib.Omega.{arith}
 use denote.Ref.{now}
-use lib.ListN.{drop, length-drop}
 use borrow.Author.Needs.{needs}
 use borrow.Author.Tests.{not-true, not-false}
-use Rattle.base.specs.Bytes.{letter, capital}
+use Rattle.base.specs.Bytes.{letter}
 use Rattle.base.specs.inner.Kinds.{such}
-use Rattle.base.proofs.Runs.{run-part, run-fits, begins-within}
+use Rattle.base.proofs.Runs.{run-part, run-within, begins-within}
 use Rattle.lexeme.specs.Lexemes.{found}
 use Rattle.lexeme.specs.inner.Coded.{coded, kind-of}
 use Rattle.lexeme.proofs.Words.{capitals-alone, capitals-mixed}
@@ -15,11 +14,10 @@ use Rattle.lexer.proofs.capitals_at.Statement.{statement}
 use Rattle.lexer.proofs.capitals_at.Tie as tie
 
 part-capital-word-end : tie.Need-part-capital-word-end
-unfolding such
 part-capital-word-end c =
     let text = now (c .before .before .before .before .args .text) in
     let p = c .before .before .before .before .args .p in
-    omega (arith, begins-within capital text p (c .before .before .before .before .pre), c .before .before .run-end .ensures, run-fits letter (drop p text), length-drop p text)
+    run-within _ text p _ (omega (arith, begins-within letter text p (c .before .before .before .before .pre .0))) (c .before .before .run-end .ensures)
 
 returns : tie.Need-returns
 unfolding such coded found kind-of
@@ -27,11 +25,11 @@ returns c =
     let p = c .before .before .before .before .before .before .args .p in
     let e = c .before .before .before .before .run-end .ensures in
     let n = sym (c .before .before .before .is-at .ensures) ∙ not-true _ (c .before .before .if1 .taken) in
-    rw (capitals-alone _ _ _ e (c .before .before .before .before .before .before .pre) n, ← run-part letter _ p _ e, c .capital-word .ensures p)
+    rw (capitals-alone _ _ _ e (c .before .before .before .before .before .before .pre .0) (c .before .before .before .before .before .before .pre .1) n, ← run-part letter _ p _ e, c .capital-word .ensures p)
 
 returns-2 : tie.Need-returns-2
 unfolding such coded
-returns-2 c = let n = sym (c .before .is-at .ensures) ∙ not-false _ (c .if1 .left) in sym (ap coded (capitals-mixed _ _ _ (c .before .before .run-end .ensures) (c .before .before .before .before .pre) n))
+returns-2 c = let n = sym (c .before .is-at .ensures) ∙ not-false _ (c .if1 .left) in sym (ap coded (capitals-mixed _ _ _ (c .before .before .run-end .ensures) (c .before .before .before .before .pre .0) (c .before .before .before .before .pre .1) n))
 
 pub capitals-at-spec : {M : Type 1} → statement M
 capitals-at-spec =

@@ -2,12 +2,11 @@
 use mathlib.Core.Path.{sym, ap, _∙_}
 use native.Mathlib.Omega.{arith}
 use denote.Ref.{now}
-use lib.ListN.{drop, length-drop}
 use borrow.Author.Needs.{needs}
 use borrow.Author.Tests.{not-true, not-false}
 use Rattle.base.specs.Bytes.{digit}
 use Rattle.base.specs.inner.Kinds.{such}
-use Rattle.base.proofs.Runs.{run-part, run-fits, begins-within}
+use Rattle.base.proofs.Runs.{run-part, run-within, begins-within}
 use Rattle.lexeme.specs.Lexemes.{found}
 use Rattle.lexeme.specs.inner.Coded.{coded, kind-of}
 use Rattle.lexeme.proofs.Words.{digits-alone, digits-mixed}
@@ -15,11 +14,10 @@ use Rattle.lexer.proofs.digits_at.Statement.{statement}
 use Rattle.lexer.proofs.digits_at.Tie as tie
 
 part-value-of-end : tie.Need-part-value-of-end
-unfolding such
 part-value-of-end c =
     let text = now (c .before .before .before .before .args .text) in
     let p = c .before .before .before .before .args .p in
-    omega (arith, begins-within digit text p (c .before .before .before .before .pre), c .before .before .run-end .ensures, run-fits digit (drop p text), length-drop p text)
+    run-within _ text p _ (omega (arith, begins-within digit text p (c .before .before .before .before .pre))) (c .before .before .run-end .ensures)
 
 returns : tie.Need-returns
 unfolding such coded found kind-of
