@@ -36,7 +36,7 @@ pub fn number(why: Refusal) -> u8
     }
 }
 
-// The bytes that a run is made of.
+// Kinds of bytes: what a run is made of, and what a word begins with.
 pub enum Such {
     Separator,
     Small,

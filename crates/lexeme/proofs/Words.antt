@@ -55,15 +55,15 @@ module _ (text : List ℕ) (p e : ℕ) where
   name-alone run-ends b = rw (begun small (λ c h. letter-is c (small-is c h)) b, b, run-ends) refl
 
   module _ (run-ends : e ≡ p + length (run letter (drop p text))) (b : begins letter (drop p text) ≡ true) (not-small : begins small (drop p text) ≡ false) where
-    pub capitals-alone : begins digit (drop e text) ≡ false → word p whole ≡ found p (capital-word keywords p (run letter (drop p text))) e
+    pub capital-alone : begins digit (drop e text) ≡ false → word p whole ≡ found p (capital-word keywords p (run letter (drop p text))) e
     unfolding word
-    capitals-alone n =
+    capital-alone n =
         let same = run-alone letter digit letter-or-digit letters-first (drop p text) (after-run letter digit run-ends n) in
         rw (begun letter letter-is b, not-small, same, all-own letter (drop p text), run-ends) refl
 
-    pub capitals-mixed : begins digit (drop e text) ≡ true → word p whole ≡ refused NoLexeme p
+    pub capital-mixed : begins digit (drop e text) ≡ true → word p whole ≡ refused NoLexeme p
     unfolding word
-    capitals-mixed n = rw (begun letter letter-is b, not-small, run-mixed letter digit letter-or-digit letters-first (drop p text) (after-run letter digit run-ends n), run-begun letter digit letter-or-digit letters-first letter-apart (drop p text) b)
+    capital-mixed n = rw (begun letter letter-is b, not-small, run-mixed letter digit letter-or-digit letters-first (drop p text) (after-run letter digit run-ends n), run-begun letter digit letter-or-digit letters-first letter-apart (drop p text) b)
 
   module _ (run-ends : e ≡ p + length (run digit (drop p text))) (b : begins digit (drop p text) ≡ true) where
     no-name : begins small whole ≡ false

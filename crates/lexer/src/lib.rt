@@ -52,7 +52,7 @@ fn name_at(text: &[u8], p: usize) -> Found
 }
 
 // A word that begins with a capital at p: all letters; one with a digit in it is mixed, and refused.
-fn capitals_at(text: &[u8], p: usize) -> Found
+fn capital_word_at(text: &[u8], p: usize) -> Found
     requires { ⌜ (begins letter (drop p (now text)) ≡ true) × (begins small (drop p (now text)) ≡ false) ⌝ }
     ensures { λ r. ⌜ r ≡ coded (word p (run letter-or-digit (drop p (now (text .entry))))) ⌝ }
 {
@@ -173,7 +173,7 @@ pub fn next(text: &[u8], at: usize) -> Found
         return name_at(text, p);
     }
     if base::is_such(Such::Letter, b) {
-        return capitals_at(text, p);
+        return capital_word_at(text, p);
     }
     if base::is_such(Such::Digit, b) {
         return digits_at(text, p);

@@ -5,7 +5,7 @@ use Rattle.base.specs.Bytes.{separator, small, letter, letter-or-digit, 
 use Rattle.base.specs.declared.Such.{Such}
 use Rattle.base.specs.declared.Such.the-variants.{Separator, Small, Letter, LetterOrDigit, Digit, NoQuote}
 
--- the bytes that a kind of run is made of
+-- the bytes of a kind
 unfoldable pub such : Such → ℕ → Bool
 such Separator = separator
 such Small = small

@@ -45,13 +45,13 @@ returns-2 : tie.Need-returns-2
 unfolding such
 returns-2 c = rw (at-word (c .before .before .before) (letter-is _ (small-is _ (sym (c .before .before .is-such .ensures) ∙ c .before .if2 .taken)))) (c .name-at .ensures)
 
-capitals-at-requires : tie.Need-capitals-at-requires
+capital-word-at-requires : tie.Need-capital-word-at-requires
 unfolding such
-capitals-at-requires c κs = (begins-at _ _ _ (c .before .before .before .before .before .if1 .left) ∙ sym (c .before .is-such2 .ensures) ∙ c .if3 .taken, begins-at _ _ _ (c .before .before .before .before .before .if1 .left) ∙ sym (c .before .before .before .is-such .ensures) ∙ c .before .before .if2 .left)
+capital-word-at-requires c κs = (begins-at _ _ _ (c .before .before .before .before .before .if1 .left) ∙ sym (c .before .is-such2 .ensures) ∙ c .if3 .taken, begins-at _ _ _ (c .before .before .before .before .before .if1 .left) ∙ sym (c .before .before .before .is-such .ensures) ∙ c .before .before .if2 .left)
 
 returns-3 : tie.Need-returns-3
 unfolding such
-returns-3 c = rw (at-word (c .before .before .before .before .before) (letter-is _ (sym (c .before .before .is-such2 .ensures) ∙ c .before .if3 .taken))) (c .capitals-at .ensures)
+returns-3 c = rw (at-word (c .before .before .before .before .before) (letter-is _ (sym (c .before .before .is-such2 .ensures) ∙ c .before .if3 .taken))) (c .capital-word-at .ensures)
 
 digits-at-requires : tie.Need-digits-at-requires
 unfolding such
@@ -86,7 +86,7 @@ next-spec =
     name-at-requires
     returns-2
     (λ c κs. search needs)
-    capitals-at-requires
+    capital-word-at-requires
     returns-3
     (λ c κs. search needs)
     digits-at-requires

@@ -1,4 +1,4 @@
--- `lexer::capitals_at` meets its contract. Assumes nothing.
+-- `lexer::capital_word_at` meets its contract. Assumes nothing.
 use mathlib.Core.Path.{sym, ap, _∙_}
 use native.Mathlib.Omega.{arith}
 use denote.Ref.{now}
@@ -9,9 +9,9 @@ use Rattle.base.specs.inner.Kinds.{such}
 use Rattle.base.proofs.Runs.{run-part, run-within, begins-within}
 use Rattle.lexeme.specs.Lexemes.{found}
 use Rattle.lexeme.specs.inner.Coded.{coded, kind-of}
-use Rattle.lexeme.proofs.Words.{capitals-alone, capitals-mixed}
-use Rattle.lexer.proofs.capitals_at.Statement.{statement}
-use Rattle.lexer.proofs.capitals_at.Tie as tie
+use Rattle.lexeme.proofs.Words.{capital-alone, capital-mixed}
+use Rattle.lexer.proofs.capital_word_at.Statement.{statement}
+use Rattle.lexer.proofs.capital_word_at.Tie as tie
 
 part-capital-word-end : tie.Need-part-capital-word-end
 part-capital-word-end c =
@@ -25,14 +25,14 @@ returns c =
     let p = c .before .before .before .before .before .before .args .p in
     let e = c .before .before .before .before .run-end .ensures in
     let n = sym (c .before .before .before .is-at .ensures) ∙ not-true _ (c .before .before .if1 .taken) in
-    rw (capitals-alone _ _ _ e (c .before .before .before .before .before .before .pre .0) (c .before .before .before .before .before .before .pre .1) n, ← run-part letter _ p _ e, c .capital-word .ensures p)
+    rw (capital-alone _ _ _ e (c .before .before .before .before .before .before .pre .0) (c .before .before .before .before .before .before .pre .1) n, ← run-part letter _ p _ e, c .capital-word .ensures p)
 
 returns-2 : tie.Need-returns-2
 unfolding such coded
-returns-2 c = let n = sym (c .before .is-at .ensures) ∙ not-false _ (c .if1 .left) in sym (ap coded (capitals-mixed _ _ _ (c .before .before .run-end .ensures) (c .before .before .before .before .pre .0) (c .before .before .before .before .pre .1) n))
+returns-2 c = let n = sym (c .before .is-at .ensures) ∙ not-false _ (c .if1 .left) in sym (ap coded (capital-mixed _ _ _ (c .before .before .run-end .ensures) (c .before .before .before .before .pre .0) (c .before .before .before .before .pre .1) n))
 
-pub capitals-at-spec : {M : Type 1} → statement M
-capitals-at-spec =
+pub capital-word-at-spec : {M : Type 1} → statement M
+capital-word-at-spec =
     tie.close
     (tie.spec
     (λ c κs. search needs)
