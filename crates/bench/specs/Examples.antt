@@ -1,4 +1,4 @@
--- Document 01, "Bench examples": the starred ones; its slips in class; and document 001's `fac0` (its listings 6.2 and 6.3 and its table 6.3).
+-- Document 01, "Bench examples": the starred ones, as they stand since document 02; T-02's own; the slips in class; and document 001's `fac0` (its listings 6.2 and 6.3 and its table 6.3).
 use mathlib.Core.Path.{_≡_}
 use mathlib.Core.List.{List, [], _∷_}
 use Prim.Native.Nat.{ℕ}
@@ -88,13 +88,20 @@ starred =
     ∷ refuses "DO PRINTI a1" 6 10
     ∷ record { text = bytes "DO PRINTI 1/0"; readings = []; budget = 1000000; comes-to = runs (as-numbers ((2, 1) ∷ (2, 0) ∷ (10, 0) ∷ (17, 0) ∷ (1, 0) ∷ [])) 0 2 (ends 5 3 0 "") }
     ∷ record { text = bytes "DO PRINTI (0-7)/2"; readings = []; budget = 1000000; comes-to = runs (as-numbers ((2, 0) ∷ (2, 7) ∷ (8, 0) ∷ (2, 2) ∷ (10, 0) ∷ (17, 0) ∷ (1, 0) ∷ [])) 0 2 (ends 0 7 0 "-3") }
-    ∷ record { text = bytes "DO { IF 1 > 2 THEN INT n PRINTI n }"; readings = []; budget = 1000000; comes-to = runs (as-numbers ((2, 0) ∷ (2, 1) ∷ (2, 2) ∷ (13, 0) ∷ (6, 7) ∷ (2, 0) ∷ (4, 0) ∷ (3, 0) ∷ (17, 0) ∷ (1, 0) ∷ [])) 1 3 (ends 0 8 0 "0") }
+    ∷ refuses "DO { IF 1 > 2 THEN INT n PRINTI n }" 6 32
     ∷ record { text = bytes switch; readings = with-reading 1; budget = 1000000; comes-to = runs switch-code 1 3 (ends 1 10 1 "") }
     ∷ record { text = bytes switch; readings = with-reading 0; budget = 1000000; comes-to = runs switch-code 1 3 (ends 0 12 1 "7") }
     ∷ record { text = bytes countdown; readings = with-reading 3; budget = 1000000; comes-to = runs countdown-code 1 3 (ends 0 39 1 "0") }
     ∷ record { text = bytes countdown; readings = with-reading 0; budget = 1000000; comes-to = runs countdown-code 1 3 (ends 0 12 1 "0") }
     ∷ record { text = bytes countdown; readings = with-reading 3; budget = 38; comes-to = runs countdown-code 1 3 (ends 2 38 1 "0") }
     ∷ record { text = bytes countdown; readings = with-reading 3; budget = 37; comes-to = runs countdown-code 1 3 (ends 2 37 1 "") }
+    ∷ []
+
+-- document 02, T-02: bodies are scopes; what hides an outer name ends with the body
+abbrev pub bodies : List Example
+bodies =
+    refuses "DO { WHILE 1 > 2 DO INT n PRINTI n }" 6 33
+    ∷ record { text = bytes "DO { INT n IF 1 < 2 THEN INT n PRINTI n }"; readings = []; budget = 1000000; comes-to = runs (as-numbers ((2, 0) ∷ (2, 0) ∷ (2, 0) ∷ (4, 0) ∷ (2, 1) ∷ (2, 2) ∷ (12, 0) ∷ (6, 10) ∷ (2, 0) ∷ (4, 1) ∷ (3, 0) ∷ (17, 0) ∷ (1, 0) ∷ [])) 2 4 (ends 0 13 0 "0") }
     ∷ []
 
 -- document 01, "Slips we've met in class": grouped to the right it would print 7; with the right side first it would end with 4; a value kept from the last round would print 12

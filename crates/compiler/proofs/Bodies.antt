@@ -30,9 +30,9 @@ use Rattle.compiler.specs.inner.Steps.{moved-to, one-instruction, Follow
 use Rattle.tables.specs.inner.Tables.{put}
 use Rattle.compiler.specs.inner.Walks.{name-of, Lays, Ready, First, Reads, Reads-command, Reads-block, Reads-string, Reads-declare, Reads-read, Reads-assign}
 use Rattle.compiler.proofs.Commands.{command-way, string-way, declare-way, read-way, assign-way, guarded-way, block-way, block-so-far, quoted-printed, name-declared, name-read, assign-leads, no-becomes, guarded-leads, block-more, block-closed, block-lost, error-read, Starts, begun-leads}
-use Rattle.compiler.proofs.Lays.{quoted, guarded, lead, lays-error, lays-quoted, lays-guarded, lays-then, ready-body}
+use Rattle.compiler.proofs.Lays.{quoted, guarded, lead, lays-error, lays-quoted, lays-then, ready-body}
 use Rattle.compiler.proofs.Looked.{quoted-of, going}
-use Rattle.compiler.proofs.Names.{noted-is, declared-is, lays-declare, lays-input, lays-assign, lays-block, ready-noted}
+use Rattle.compiler.proofs.Names.{noted-is, declared-is, lays-declare, lays-input, lays-assign, lays-block, lays-guarded, ready-noted, ready-opened}
 use Rattle.compiler.proofs.Passes.{expression-way, condition-way, lost-first}
 use Rattle.compiler.proofs.Reading.{Way, Barred, Leads, Met}
 use Rattle.compiler.proofs.Replies.{Got, done, Said, said-got, handed-on, ready-past, counts-got}
@@ -182,7 +182,7 @@ before-some false z = omega arith
 
 -- by the walk from w to c, and after the lexeme to x
 pub record Headed (again : Bool) (text names : List ℕ) (table : List ℤ) (w : Walk) (allow : ℕ) (table₁ : List ℤ) (c : Walk) (g : Gives) (x : Walk) : Type 0 where
-  pub ready : Ready text names w allow
+  pub ready : Ready text names w (suc allow)
   pub test : Got condition-way text names table w allow names table₁ c g
   pub then : Crossed text c x (before-body again)
 
@@ -195,8 +195,8 @@ module _ {again : Bool} {text names : List ℕ} {table table₁ : List ℤ} {w c
   head-small = omega (arith, ap (λ (u : Walk). u .code) (b .then .past .moved), counts-got (b .ready) (b .test) .0)
 
   -- what the body's reader may be called with
-  pub ready-headed : Ready text names (one-instruction x) allow
-  ready-headed = subst (λ (u : Walk). Ready text names (one-instruction u) allow) (sym (b .then .past .moved)) (ready-body (b .ready) (b .test .laid) (x .next) past-head (b .then .past .follows .stands))
+  pub ready-headed : Ready text names (one-instruction x) (suc allow)
+  ready-headed = subst (λ (u : Walk). Ready text names (one-instruction u) (suc allow)) (sym (b .then .past .moved)) (ready-body (b .ready) (b .test .laid) (x .next) past-head (b .then .past .follows .stands))
 
   pub body-leads : Leads text (w .next) (x .next) (suc allow) (guarded-way again) allow command-way (guarded again (b .test .what))
   body-leads = guarded-leads allow (b .test .what) (b .test .passed) again (b .then .met)
@@ -212,28 +212,28 @@ unfolding ended-walk one-instruction
 ended-next true w = refl
 ended-next false w = refl
 
--- and a body after them, by the walk to y
-pub record Bodied (again : Bool) (text names : List ℕ) (table : List ℤ) (w : Walk) (allow : ℕ) (c : Walk) (g : Gives) (names₂ : List ℕ) (table₂ : List ℤ) (y : Walk) (h : Gives) : Type 0 where
+-- and a body after them, by the walk to y, with the names inside its scope
+pub record Bodied (again : Bool) (text names : List ℕ) (table : List ℤ) (w : Walk) (allow : ℕ) (c : Walk) (g : Gives) (inside : List ℕ) (table₂ : List ℤ) (y : Walk) (h : Gives) : Type 0 where
   pub table₁ : List ℤ
   pub x : Walk
   pub head : Headed again text names table w allow table₁ c g x
-  pub body : Got command-way text names table₁ (one-instruction x) allow names₂ table₂ y h
+  pub body : Got command-way text (opened-in names) table₁ (one-instruction x) allow inside table₂ y h
 
-module _ {again : Bool} {text names names₂ : List ℕ} {table table₂ : List ℤ} {w c y : Walk} {g h : Gives} {allow : ℕ} (b : Bodied again text names table w allow c g names₂ table₂ y h) where
+module _ {again : Bool} {text names inside : List ℕ} {table table₂ : List ℤ} {w c y : Walk} {g h : Gives} {allow : ℕ} (b : Bodied again text names table w allow c g inside table₂ y h) where
   pub body-small : y .code < 10000000
-  body-small = counts-got (ready-headed (b .head)) (b .body) .0
+  body-small = counts-got (ready-opened (ready-headed (b .head))) (b .body) .0
 
   pub end-small : ended-walk again y .code < 2147483648
   end-small = omega (arith, body-small, ended-code again y)
 
-  pub guarded-read : let u = ended-walk again y in Got (guarded-way again) text names table w (suc allow) names₂ (put (ended-table again table₂ (y .code) (w .code)) (c .code) (pos 6 ∷ pos (u .code) ∷ [])) u (record { need = max (g .need) (h .need) })
+  pub guarded-read : let u = ended-walk again y in Got (guarded-way again) text names table w (suc allow) (closed-in inside (counts names)) (put (ended-table again table₂ (y .code) (w .code)) (c .code) (pos 6 ∷ pos (u .code) ∷ [])) u (record { need = max (g .need) (h .need) })
   unfolding one-instruction
   guarded-read =
       let a = b .head in
       record {
         what = guarded again (a .test .what) (b .body .what);
         passed = rw (ended-next again y) (body-leads a .passes (b .body .what) (b .body .passed));
-        laid = lays-guarded again (b .x .next) (past-head a) (a .test .laid) (subst (λ (u : Walk). Lays text names (b .table₁) (one-instruction u) (b .body .what) names₂ table₂ y h) (a .then .past .moved) (b .body .laid));
+        laid = lays-guarded again (omega (arith, a .ready .allowed)) (b .x .next) (past-head a) (a .test .laid) (subst (λ (u : Walk). Lays text (opened-in names) (b .table₁) (one-instruction u) (b .body .what) inside table₂ y h) (a .then .past .moved) (b .body .laid));
       }
 
 -- ---- the commands of a block

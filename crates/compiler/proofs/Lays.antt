@@ -276,7 +276,7 @@ laid-over {table} {table₁} {w} {c} {v} {x} z is e s n p t = record {
 }
 
 module _ {table table₁ table₂ : List ℤ} {w c v : Walk} {g h : Gives} {x : Sen ℕ condition} {y : Sen ℕ command} (m : Lexeme) (p : Laid table table₁ w c g x) (q : Laid table₁ table₂ (one-instruction (moved-to c m)) v h y) where
-  laid-guarded : (again : Bool) → let u = ended-walk again v in Laid table (put (ended-table again table₂ (v .code) (w .code)) (c .code) (pos 6 ∷ pos (u .code) ∷ [])) w u (record { need = max (g .need) (h .need) }) (guarded again x y)
+  pub laid-guarded : (again : Bool) → let u = ended-walk again v in Laid table (put (ended-table again table₂ (v .code) (w .code)) (c .code) (pos 6 ∷ pos (u .code) ∷ [])) w u (record { need = max (g .need) (h .need) }) (guarded again x y)
   unfolding moved-to one-instruction size need code encode ended-walk ended-table guarded
   laid-guarded true = laid-over (while x y) (code (c .code + 1) y ++ jump (w .code) ∷ []) (code-while (w .code) x y ∙ rw (q .code, p .code) refl) (omega (arith, p .code, q .code)) (ap₂ max (p .need) (q .need)) p (sym (emit-code table₁ (c .code + 1) y (jump (w .code) ∷ []) ∙ rw (← q .code, ← q .numbers) (emit-one table₂ (v .code) (jump (w .code)))))
   laid-guarded false = laid-over (when x y) (code (c .code + 1) y) (code-when (w .code) x y ∙ rw (q .code, p .code) refl) (omega (arith, p .code, q .code)) (ap₂ max (p .need) (q .need)) p (q .numbers)
@@ -290,12 +290,6 @@ laid-then {table} {w} {x} {y} p q = record {
 }
 
 module _ {text names names₁ names₂ : List ℕ} {table table₁ table₂ : List ℤ} {w c v : Walk} {g h : Gives} {y : Sen Name command} where
-  pub lays-guarded : (again : Bool) {x : Sen Name condition} (m : Lexeme) → c .next .place < m .place → Lays text names table w x names₁ table₁ c g → Lays text names₁ table₁ (one-instruction (moved-to c m)) y names₂ table₂ v h →
-      Lays text names table w (guarded again x y) names₂ (put (ended-table again table₂ (v .code) (w .code)) (c .code) (pos 6 ∷ pos (ended-walk again v .code) ∷ [])) (ended-walk again v) (record { need = max (g .need) (h .need) })
-  unfolding moved-to one-instruction ended-walk ended-table guarded stand resolve spare
-  lays-guarded true m i p q = lays-two while refl p q refl refl (λ a b f e. laid-guarded {x = a} {y = b} m f e true) (omega (arith, p .small, q .small)) (q .sound)
-  lays-guarded false m i p q = lays-two when refl p q refl refl (λ a b f e. laid-guarded {x = a} {y = b} m f e false) (omega (arith, p .small, q .small)) (q .sound)
-
   pub lays-then : {x : Sen Name commands} → Lays text names table w x names₁ table₁ c g → Lays text names₁ table₁ c y names₂ table₂ v h → Lays text names table w (then x y) names₂ table₂ v (record { need = max (g .need) (h .need) })
   unfolding stand resolve spare
   lays-then p q = lays-two then refl p q refl refl (λ a b. laid-then {x = a} {y = b}) (omega (arith, p .small, q .small)) (q .sound)

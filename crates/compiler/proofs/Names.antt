@@ -1,8 +1,8 @@
--- Laws of naming and writing for names and blocks: uses, declarations, and what a block closes. Assumes nothing.
+-- Laws of naming and writing for names and scopes: uses, declarations, and what vanishes at the end of a block or a body. Assumes nothing.
 use mathlib.Core.Path.{_≡_, refl, sym, ap, _∙_}
 use mathlib.Core.List.{List, [], _∷_}
 use mathlib.Core.Bool.{Bool, true, false, cond}
-use Prim.Native.Nat.{ℕ, suc, _+_, _-_, _/_, _≤_, _<_}
+use Prim.Native.Nat.{ℕ, suc, _+_, _-_, _/_, _≤_, _<_, max}
 use native.Mathlib.Numerals.{add-one}
 use native.Mathlib.Omega.{arith}
 use lib.Dec.{ltb}
@@ -13,7 +13,7 @@ use Rattle.base.specs.Answers.{Answer, given, pass}
 use Rattle.base.specs.inner.Parts.{part}
 use Rattle.lexeme.specs.Lexemes.{Name}
 use Rattle.lexeme.specs.declared.Lexeme.{Lexeme}
-use Rattle.sentence.specs.Sentences.{Kind, Sen, expression, commands, variable, declare, input, assign, block}
+use Rattle.sentence.specs.Sentences.{Kind, Sen, expression, condition, command, commands, variable, declare, input, assign, while, when, block}
 use Rattle.names.specs.Names as N
 use Rattle.names.specs.Names.{Known, Naming, used, declared-here, opened, closed, scoped, resolve}
 use Rattle.names.specs.declared.Scope as held
@@ -28,11 +28,11 @@ use Rattle.compiler.specs.declared.walk.Walk.{Walk}
 use Rattle.compiler.specs.declared.walk.Gives.{Gives}
 use Rattle.tables.specs.declared.NameFault.{NameFault}
 use Rattle.tables.specs.declared.NameFault.the-variants.{Nothing, Is}
-use Rattle.compiler.specs.inner.Steps.{moved-to, one-instruction, first-fault, faulted-walk, cell-of, noted-walk, cell-number, declared-walk}
+use Rattle.compiler.specs.inner.Steps.{moved-to, one-instruction, first-fault, faulted-walk, cell-of, noted-walk, cell-number, declared-walk, ended-walk, ended-table}
 use Rattle.tables.specs.inner.Tables.{put, operand-of, emit}
-use Rattle.compiler.specs.inner.Walks.{standing, stand, Laid, spare, Lays, Ready, name-of}
+use Rattle.compiler.specs.inner.Walks.{standing, stand, Laid, spare, Small, Lays, Ready, name-of}
 use Rattle.tables.proofs.Emits.{emit-one}
-use Rattle.compiler.proofs.Lays.{Agrees, gives, refuses, never, agrees-one, agrees-two, agrees, lays, laid-more}
+use Rattle.compiler.proofs.Lays.{Agrees, gives, refuses, never, agrees-one, agrees-two, Led, agrees, lays, laid-more, guarded, laid-guarded}
 
 -- ---- a use
 
@@ -139,9 +139,9 @@ module _ {text names : List ℕ} {table : List ℤ} {w : Walk} where
       (declared-here (room names) (name-of text (w .next))) (stand text names w) (agrees-declared names f y text))
       (omega (arith, c)) (declared-sound names (w .next .place) (w .next .end) f) (declared-kept names (w .next .place) (w .next .end) f)
 
--- ---- a block
+-- ---- a scope
 
--- what is known inside a block, once it is closed, in the scope s around it
+-- what is known inside a scope, once it is closed, in the scope s around it
 abbrev outside : {A : Type 0} → N.Scope → Known A → Answer (Known A)
 outside s a = given (record { what = a .what; scope = closed s (a .scope) })
 
@@ -156,17 +156,39 @@ module _ {A : Type 0} {P : A → Type 0} (m : Naming A) (s t : N.Scope) where
   agrees-scoped (Is _ _) Nothing (refuses why i e d) = never d
   agrees-scoped (Is _ _) (Is _ _) (refuses why i e d) = refuses why i e d
 
+-- what was read inside it, once it is closed: what it declared has vanished, and all else is as it was read
+module _ {k : Kind} {text names names′ : List ℕ} {table table′ : List ℤ} {w v : Walk} {g : Gives} {x : Sen Name k} (f : Sound names) (few : counts names .blocks < 1000000) (p : Lays text (opened-in names) table w x names′ table′ v g) where
+  agrees-closed : Agrees (Laid table table′ w v g) (stand text (closed-in names′ (counts names)) v) (pass (stand text names w) (scoped (resolve (room names) x)))
+  unfolding stand
+  agrees-closed =
+      let long : room (opened-in names) ≡ room names = ap (λ (n : ℕ). (n - 5) / 4) (opened-long names f few) in
+      rw (closed-scope-in names f few names′ (p .kept) (p .sound) text)
+      (agrees-scoped (resolve (room names) x) (scope-in text names) (scope-in text names′) (w .fault) (v .fault) (rw (opened-scope-in names f few text, long) at (agrees p)))
+
+  lays-closed : {l : Kind} {z : Sen Name l} {u y : Walk} {d : Gives} {before after : List ℤ} → Led text names before u z (closed-in names′ (counts names)) after y d → Small l u y d → Lays text names before u z (closed-in names′ (counts names)) after y d
+  lays-closed a s = lays a s (closed-sound names f few names′ (p .kept) (p .sound)) (closed-kept names f few names′ (p .kept) (p .sound))
+
 module _ {text names names′ : List ℕ} {table table′ : List ℤ} {w v : Walk} {g : Gives} {x : Sen Name commands} where
   pub lays-block : Sound names → counts names .blocks < 1000000 → Lays text (opened-in names) table w x names′ table′ v g → (m : Lexeme) → v .next .place ≤ m .place → Lays text names table w (block x) (closed-in names′ (counts names)) table′ (moved-to v m) g
   unfolding moved-to stand resolve size need code spare
   lays-block f few p m h =
-      let long : room (opened-in names) ≡ room names = ap (λ (n : ℕ). (n - 5) / 4) (opened-long names f few) in
-      lays (rw (closed-scope-in names f few names′ (p .kept) (p .sound) text)
-      (agrees-one block (λ y q. record { code = q .code; need = q .need; numbers = q .numbers }) (scoped (resolve (room names) x)) (stand text names w)
-      (agrees-scoped (resolve (room names) x) (scope-in text names) (scope-in text names′) (w .fault) (v .fault) (rw (opened-scope-in names f few text, long) at (agrees p)))))
+      lays-closed f few p
+      (agrees-one block (λ y q. record { code = q .code; need = q .need; numbers = q .numbers }) (scoped (resolve (room names) x)) (stand text names w) (agrees-closed f few p))
       (omega (arith, p .small))
-      (closed-sound names f few names′ (p .kept) (p .sound))
-      (closed-kept names f few names′ (p .kept) (p .sound))
+
+-- the body of an IF or a WHILE, after the condition
+module _ {text names names′ : List ℕ} {table table₁ table₂ : List ℤ} {w c v : Walk} {g h : Gives} {x : Sen Name condition} {y : Sen Name command} where
+  pub lays-guarded : (again : Bool) → counts names .blocks < 1000000 → (m : Lexeme) → c .next .place < m .place → Lays text names table w x names table₁ c g → Lays text (opened-in names) table₁ (one-instruction (moved-to c m)) y names′ table₂ v h →
+      Lays text names table w (guarded again x y) (closed-in names′ (counts names)) (put (ended-table again table₂ (v .code) (w .code)) (c .code) (pos 6 ∷ pos (ended-walk again v .code) ∷ [])) (ended-walk again v) (record { need = max (g .need) (h .need) })
+  unfolding moved-to one-instruction ended-walk ended-table guarded stand resolve spare
+  lays-guarded true few m i p q =
+      lays-closed (p .sound) few q
+      (agrees-two while (λ a b s t. laid-guarded {x = a} {y = b} m s t true) (resolve (room names) x) (scoped (resolve (room names) y)) (stand text names w) (agrees p) (agrees-closed (p .sound) few q))
+      (omega (arith, p .small, q .small))
+  lays-guarded false few m i p q =
+      lays-closed (p .sound) few q
+      (agrees-two when (λ a b s t. laid-guarded {x = a} {y = b} m s t false) (resolve (room names) x) (scoped (resolve (room names) y)) (stand text names w) (agrees p) (agrees-closed (p .sound) few q))
+      (omega (arith, p .small, q .small))
 
 -- ---- what the next reader may be called with
 
@@ -175,7 +197,7 @@ module _ {text names : List ℕ} {w : Walk} {allow : ℕ} where
   pub ready-noted : Ready text names w allow → (cell : Cell) (place : ℕ) → Ready text names (noted-walk cell w place) allow
   ready-noted r cell place = rw (noted-is cell w place) (record { stands = r .stands; short = r .short; code = r .code; sound = r .sound; allowed = r .allowed })
 
-  -- after an opening brace
+  -- where a scope opens
   pub ready-opened : Ready text names w (suc allow) → Ready text (opened-in names) w allow
   ready-opened r =
       let few : counts names .blocks < 1000000 = omega (arith, r .allowed) in

@@ -4,7 +4,7 @@ ghost use mathlib.Core.Bool.{false};
 ghost use Prim.Native.Nat.{suc, _<_};
 ghost use Rattle.lexeme.specs.inner.Coded.{code-of, fixed-number};
 ghost use Rattle.compiler.specs.inner.Steps.{moved-to, printing-number, has-body, before-body, ended-walk, ended-table};
-ghost use Rattle.compiler.specs.inner.Walks.{Ready, First, Reads-command, Reads-print, Reads-string, Reads-declare, Reads-read, Reads-assign, Reads-guarded, Reads-block};
+ghost use Rattle.compiler.specs.inner.Walks.{Ready, First, Reads-command, Reads-print, Reads-string, Reads-declare, Reads-read, Reads-assign, Reads-body, Reads-guarded, Reads-block};
 use crate::expression;
 use crate::naming;
 use crate::walk;
@@ -214,7 +214,7 @@ fn guarded(
     let Read::Done(x, _) = s else {
         return s;
     };
-    let t = command(allow, text, names, table, walk::skipped(x));
+    let t = body(allow, text, names, table, walk::skipped(x));
     let Read::Done(y, h) = t else {
         return t;
     };
@@ -226,6 +226,18 @@ fn guarded(
             need: walk::larger(g.need, h.need),
         },
     )
+}
+
+// The body of an IF or a WHILE, with so many nestings allowed inside: a Command in a scope of its own.
+fn body(allow: usize, text: &[u8], names: &mut [usize], table: &mut [i32], w: Walk) -> Read
+    requires { ⌜ Ready (now text) (now names) w (suc allow) ⌝ }
+    ensures { λ r. ⌜ Reads-body (now (text .entry)) (now (names .entry)) (now (table .entry)) w allow r (now (names .exit)) (now (table .exit)) ⌝ }
+{
+    let outside = scopes::counts(names);
+    scopes::open(names);
+    let r = command(allow, text, names, table, w);
+    scopes::close(names, outside);
+    r
 }
 
 // After `{`, with so many nestings allowed inside.

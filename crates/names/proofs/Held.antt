@@ -1,4 +1,4 @@
--- How the code holds a scope, for whoever calls it: a use, a declaration and a block do to the scope held what names do to a scope. Assumes nothing.
+-- How the code holds a scope, for whoever calls it: a use, a declaration, and a scope's beginning and end do to the list what names do to a scope. Assumes nothing.
 use mathlib.Core.Path.{_≡_, refl, sym, ap, _∙_}
 use mathlib.Core.List.{List, [], _∷_}
 use mathlib.Core.Bool.{Bool, true, false, cond}
@@ -266,7 +266,7 @@ module _ (names : List ℕ) (p e : ℕ) (sound : Sound names) where
   unfolding declared-here scope-in
   declared-too-many h text x = rw (le-ltb (s .declared) (room names) h)
 
--- ---- a block
+-- ---- a scope's beginning and its end
 
 module _ (names : List ℕ) (sound : Sound names) (few : counts names .blocks < 1000000) where
   pub opened-counts : counts (opened-in names) ≡ record { visible = counts names .visible; declared = counts names .declared; «next_cell» = counts names .«next_cell»; cells = counts names .cells; blocks = suc (counts names .blocks) }

@@ -1,3 +1,4 @@
 pub mod Resolved
+pub mod Vanished
 pub mod Held
 pub mod Found

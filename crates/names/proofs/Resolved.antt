@@ -126,8 +126,8 @@ module _ (limit d : ℕ) (Q : Quoted → Type 0) where
   resolves (input x) q = bind (uses x) (λ _. gives _ (λ p. p))
   resolves (assign x e) q = bind (uses x) (λ _. bind (resolves e (q .1)) (λ _. gives _ (λ r p. (p, r))))
   resolves error q = gives _ tt
-  resolves (while c m) q = bind (resolves c (q .0)) (λ _. bind (resolves m (q .1)) (λ _. gives _ (λ r p. (p, r))))
-  resolves (when c m) q = bind (resolves c (q .0)) (λ _. bind (resolves m (q .1)) (λ _. gives _ (λ r p. (p, r))))
+  resolves (while c m) q = bind (resolves c (q .0)) (λ _. bind (closes (resolves m (q .1))) (λ _. gives _ (λ r p. (p, r))))
+  resolves (when c m) q = bind (resolves c (q .0)) (λ _. bind (closes (resolves m (q .1))) (λ _. gives _ (λ r p. (p, r))))
   resolves (block ms) q = bind (closes (resolves ms q)) (λ _. gives _ (λ p. p))
   resolves (single m) q = bind (resolves m q) (λ _. gives _ (λ p. p))
   resolves (then ms m) q = bind (resolves ms (q .0)) (λ _. bind (resolves m (q .1)) (λ _. gives _ (λ r p. (p, r))))

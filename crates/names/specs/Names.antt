@@ -67,7 +67,7 @@ one-more x s = record {
 unfoldable pub declared-here : ℕ → Name → Naming ℕ
 declared-here limit x = λ s. cond (ltb (s .declared) limit) (given (record { what = s .next-cell; scope = one-more x s })) (refused TooManyDeclared (x .place))
 
--- a scope is opened only by a brace, and its declarations vanish at the closing brace
+-- a scope is opened by a brace, and by the body of an IF or a WHILE; its declarations vanish at its end
 unfoldable pub opened : Scope → Scope
 opened s = record { visible = s .visible; declared = s .declared; next-cell = s .next-cell; cells = s .cells; blocks = suc (s .blocks) }
 
@@ -97,8 +97,8 @@ module _ (limit : ℕ) where
   resolve (input x) = do c ← used x; give (input c)
   resolve (assign x e) = do c ← used x; e′ ← resolve e; give (assign c e′)
   resolve error = give error
-  resolve (while c m) = do c′ ← resolve c; m′ ← resolve m; give (while c′ m′)
-  resolve (when c m) = do c′ ← resolve c; m′ ← resolve m; give (when c′ m′)
+  resolve (while c m) = do c′ ← resolve c; m′ ← scoped (resolve m); give (while c′ m′)
+  resolve (when c m) = do c′ ← resolve c; m′ ← scoped (resolve m); give (when c′ m′)
   resolve (block ms) = do ms′ ← scoped (resolve ms); give (block ms′)
   resolve (single m) = do m′ ← resolve m; give (single m′)
   resolve (then ms m) = do ms′ ← resolve ms; m′ ← resolve m; give (then ms′ m′)

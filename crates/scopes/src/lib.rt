@@ -1,4 +1,4 @@
-// What a name's use, a declaration and a block do to the list that holds the scope.
+// What a name's use, a declaration, and a scope's beginning and end do to the list that holds what is known.
 ghost use mathlib.Core.Path.{_≡_};
 ghost use mathlib.Core.List.{[], _∷_};
 ghost use mathlib.Core.Bool.{true, false};
@@ -172,9 +172,9 @@ pub fn declare(names: &mut [usize], p: usize, e: usize) -> bool
     false
 }
 
-// ---- a block
+// ---- a scope's beginning and its end
 
-// An opening brace.
+// A brace opens one, and so does the body of an IF or a WHILE.
 pub fn open(names: &mut [usize])
     ensures { λ _. ⌜ now (names .exit) ≡ opened-in (now (names .entry)) ⌝ }
 {
@@ -189,7 +189,7 @@ pub fn open(names: &mut [usize])
     put_counts(names, t);
 }
 
-// The closing brace of a block, where `before` was counted before the opening one.
+// What it declared vanishes, where `before` was counted before it was opened.
 pub fn close(names: &mut [usize], before: Scope)
     ensures { λ _. ⌜ now (names .exit) ≡ closed-in (now (names .entry)) before ⌝ }
 {

@@ -18,7 +18,7 @@ use Rattle.lexeme.specs.declared.Found.the-variants as reply
 use Rattle.sentence.specs.Sentences.{Kind, Sen, factor, term, expression, condition, command, commands}
 use Rattle.sentence.proofs.Reader.{Around, depth, State, in-first, in-left, in-print, in-while, in-when, in-block, want-factor, want-expression, want-condition, want-command, want-line, want-string, want-declared, want-read, want-becomes, step, verdict, goes-on, is-whole, begins-none, whole, read-from, read, got-factor, whole-term, after-expression, whole-expression, after-condition, after-command}
 use Rattle.names.specs.Names.{Scope, Known, resolve}
-use Rattle.names.specs.inner.Held.{counts, room, scope-in, Sound, Kept}
+use Rattle.names.specs.inner.Held.{counts, room, scope-in, opened-in, closed-in, Sound, Kept}
 use Rattle.meaning.specs.Layout as layout
 use Rattle.meaning.proofs.Sizes.{size}
 use Rattle.compiler.specs.declared.walk.Walk.{Walk}
@@ -161,6 +161,10 @@ name-of text l = record { spelled = part text (l .place) (l .end); place = l .pl
 
 abbrev pub Reads-assign : Lexeme → Reading
 Reads-assign l = λ text. Reads command (want-becomes (name-of text l)) after-command text
+
+-- the body of an IF or a WHILE: a Command in a scope of its own
+abbrev pub Reads-body : Reading
+Reads-body = λ text names table w allow r names′ table′. (inside : List ℕ) × Reads-command text (opened-in names) table w allow r inside table′ × (names′ ≡ closed-in inside (counts names))
 
 -- after IF, or after WHILE, whose body is done again; one nesting more than is allowed inside
 unfoldable pub want-guarded : Bool → Around command → State

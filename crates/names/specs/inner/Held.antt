@@ -65,7 +65,7 @@ entered names p e = cond (ltb (counts names .visible) (room names)) (sets names 
 unfoldable pub declared-in : List ℕ → ℕ → ℕ → List ℕ
 declared-in names p e = cond (ltb (counts names .declared) (room names)) (with-counts (entered names p e) (declared-scope (counts names))) names
 
--- ---- a block
+-- ---- a scope's beginning and its end
 
 unfoldable pub opened-scope : Scope → Scope
 opened-scope s = record { visible = s .visible; declared = s .declared; «next_cell» = s .«next_cell»; cells = s .cells; blocks = one-up (s .blocks) }

@@ -22,13 +22,16 @@ use borrow.Fn.Kinds.{In}
 use borrow.Fn.PlainCycle.{Measures, is, falls, and}
 use Rattle.compiler.proofs.command.block.Reads as block
 use Rattle.compiler.proofs.command.block.Kinds as block-kinds
-use Rattle.compiler.proofs.command.+block+command+guarded.Lts-block as block-lts
+use Rattle.compiler.proofs.command.+block+body+command+guarded.Lts-block as block-lts
+use Rattle.compiler.proofs.command.body.Reads as body
+use Rattle.compiler.proofs.command.body.Kinds as body-kinds
+use Rattle.compiler.proofs.command.+block+body+command+guarded.Lts-body as body-lts
 use Rattle.compiler.proofs.command.command.Reads as command
 use Rattle.compiler.proofs.command.command.Kinds as command-kinds
-use Rattle.compiler.proofs.command.+block+command+guarded.Lts-command as command-lts
+use Rattle.compiler.proofs.command.+block+body+command+guarded.Lts-command as command-lts
 use Rattle.compiler.proofs.command.guarded.Reads as guarded
 use Rattle.compiler.proofs.command.guarded.Kinds as guarded-kinds
-use Rattle.compiler.proofs.command.+block+command+guarded.Lts-guarded as guarded-lts
+use Rattle.compiler.proofs.command.+block+body+command+guarded.Lts-guarded as guarded-lts
 use Rattle.compiler.proofs.command.before_body.Reads as before-body-reads
 use Rattle.compiler.proofs.command.ended.Reads as ended-reads
 use Rattle.compiler.proofs.command.has_body.Reads as has-body-reads
@@ -43,23 +46,32 @@ use Rattle.compiler.proofs.walk.skipped.Reads as skipped-reads
 use Rattle.scopes.proofs.close.Reads as close-reads
 use Rattle.scopes.proofs.counts.Reads as counts-reads
 use Rattle.scopes.proofs.open.Reads as open-reads
-use Rattle.compiler.proofs.command.+block+command+guarded.{statement}
-use Rattle.compiler.proofs.command.+block+command+guarded.Tie.{close}
+use Rattle.compiler.proofs.command.+block+body+command+guarded.{statement}
+use Rattle.compiler.proofs.command.+block+body+command+guarded.Tie.{close}
 
 abbrev μ-block : Measures 3 block-kinds.ps ℕ
-μ-block κs a = a .0 * 2 + 1
+μ-block κs a = a .0 * 3 + 1
+
+abbrev μ-body : Measures 3 body-kinds.ps ℕ
+μ-body κs a = a .0 * 3 + 1
 
 abbrev μ-command : Measures 3 command-kinds.ps ℕ
-μ-command κs a = a .0 * 2
+μ-command κs a = a .0 * 3
 
 abbrev μ-guarded : Measures 3 guarded-kinds.ps ℕ
-μ-guarded κs a = a .0 * 2 + 1
+μ-guarded κs a = a .0 * 3 + 2
 
 abbrev block-at : ℕ → In 3 block-kinds.ps
 block-at t = and 3 block-kinds.ps (is 3 block-kinds.ps μ-block t) block.Pre
 
 abbrev block-below : ℕ → In 3 block-kinds.ps
 block-below t = and 3 block-kinds.ps (falls 3 block-kinds.ps _<_ μ-block t) block.Pre
+
+abbrev body-at : ℕ → In 3 body-kinds.ps
+body-at t = and 3 body-kinds.ps (is 3 body-kinds.ps μ-body t) body.Pre
+
+abbrev body-below : ℕ → In 3 body-kinds.ps
+body-below t = and 3 body-kinds.ps (falls 3 body-kinds.ps _<_ μ-body t) body.Pre
 
 abbrev command-at : ℕ → In 3 command-kinds.ps
 command-at t = and 3 command-kinds.ps (is 3 command-kinds.ps μ-command t) command.Pre
@@ -76,11 +88,14 @@ guarded-below t = and 3 guarded-kinds.ps (falls 3 guarded-kinds.ps _<_ μ-guarde
 abbrev block-calls : ℕ → block-lts.Claims
 block-calls t = (counts-reads.Asked, counts-reads.Learnt, open-reads.Asked, open-reads.Learnt, command-below t, command.Post, fixed-ahead-reads.Asked, fixed-ahead-reads.Learnt, close-reads.Asked, close-reads.Learnt, advance-reads.Asked, advance-reads.Learnt, larger-reads.Asked, larger-reads.Learnt)
 
+abbrev body-calls : ℕ → body-lts.Claims
+body-calls t = (counts-reads.Asked, counts-reads.Learnt, open-reads.Asked, open-reads.Learnt, command-below t, command.Post, close-reads.Asked, close-reads.Learnt)
+
 abbrev command-calls : ℕ → command-lts.Claims
 command-calls t = (fixed-ahead-reads.Asked, fixed-ahead-reads.Learnt, advance-reads.Asked, advance-reads.Learnt, has-body-reads.Asked, has-body-reads.Learnt, without-body-reads.Asked, without-body-reads.Learnt, block-below t, block.Post, guarded-below t, guarded.Post)
 
 abbrev guarded-calls : ℕ → guarded-lts.Claims
-guarded-calls t = (condition-reads.Asked, condition-reads.Learnt, before-body-reads.Asked, before-body-reads.Learnt, expect-reads.Asked, expect-reads.Learnt, skipped-reads.Asked, skipped-reads.Learnt, command-below t, command.Post, ended-reads.Asked, ended-reads.Learnt, put-jump-if-false-reads.Asked, put-jump-if-false-reads.Learnt, larger-reads.Asked, larger-reads.Learnt)
+guarded-calls t = (condition-reads.Asked, condition-reads.Learnt, before-body-reads.Asked, before-body-reads.Learnt, expect-reads.Asked, expect-reads.Learnt, skipped-reads.Asked, skipped-reads.Learnt, body-below t, body.Post, ended-reads.Asked, ended-reads.Learnt, put-jump-if-false-reads.Asked, put-jump-if-false-reads.Learnt, larger-reads.Asked, larger-reads.Learnt)
 
 abbrev block-Inv-loop : block-lts.InvT-loop
 block-Inv-loop allow text names₀ table₀ before so-far₀ names table so-far = More text allow names₀ table₀ so-far₀ names table so-far
@@ -129,6 +144,12 @@ block-loop-less t c = let g = block-next t (c .before .before) in rw (c .before 
 block-loop-again : (t : ℕ) → block-lts.Need-loop-again (block-calls t) (block-at t) block.Post block-Inv-loop block-μ-loop
 unfolding code-of
 block-loop-again t c = rw (c .larger .ensures) (more-on (c .before .before .before .before .before .before .before .before .before .before .before .before .before .so-far .given .1) (c .before .before .before .before .before .before .before .before .before .before .before .before .before .before .before .loop .inv) (λ h. c .before .before .before .before .before .before .before .before .before .before .if1 .left (c .before .before .before .before .before .before .before .before .before .before .before .fixed-ahead .ensures ∙ h)) (block-next t (c .before .before)) (c .before .before .before .before .before .before .before .command2 .kept .1 .1 .0) (c .before .before .before .before .before .before .before .command2 .kept .1 .1 .1 .0))
+
+body-command-requires : (t : ℕ) → body-lts.Need-command-requires (body-calls t) (body-at t) body.Post
+body-command-requires t c κs = (omega (arith, c .before .before .before .before .before .before .before .before .before .before .pre .0), rw (c .before .before .before .before .«open» .ensures) (ready-opened (c .before .before .before .before .before .before .before .before .before .before .pre .1)))
+
+body-returns : (t : ℕ) → body-lts.Need-returns (body-calls t) (body-at t) body.Post
+body-returns t c = (_, rw (c .before .before .before .before .before .before .before .before .before .before .before .before .«open» .ensures) at (c .before .before .before .before .before .before .before .command .ensures), rw (c .before .before .before .before .before .before .before .before .before .before .before .before .before .before .counts .ensures) at (c .before .before .close .ensures))
 
 command-advance-requires : (t : ℕ) → command-lts.Need-advance-requires (command-calls t) (command-at t) command.Post
 command-advance-requires t c κs = c .before .before .before .before .pre .1 .stands .within
@@ -205,41 +226,41 @@ guarded-returns-2 t c =
 
 -- and the lexeme before the body
 guarded-head : (t : ℕ) (c : guarded-lts.After-s (guarded-calls t) (guarded-at t) guarded.Post) → let a = c .before .before .before .before .before .before .before .before .before .before .before .before .before .args in Headed (a .again) (now (a .text)) (now (a .names)) (now (a .table)) (a .w) (a .allow) (c .before .before .before .before .before .before .before .before .condition .last .1 .1 .1 .0) (c .before .before .before .before .before .r .given .0 .0) (c .before .before .before .before .before .r .given .0 .1 .0) (c .s .given .0 .0)
-guarded-head t c = record { ready = ready-inside (c .before .before .before .before .before .before .before .before .before .before .before .before .before .pre .1); test = guarded-test t (c .before .before .before .before .before); then = crossed _ _ _ _ (c .s .given .1) (guarded-expects t (c .before .before)) }
+guarded-head t c = record { ready = c .before .before .before .before .before .before .before .before .before .before .before .before .before .pre .1; test = guarded-test t (c .before .before .before .before .before); then = crossed _ _ _ _ (c .s .given .1) (guarded-expects t (c .before .before)) }
 
 guarded-skipped-requires : (t : ℕ) → guarded-lts.Need-skipped-requires (guarded-calls t) (guarded-at t) guarded.Post
 guarded-skipped-requires t c κs = head-small (guarded-head t (c .before .before .before))
 
-guarded-command-requires : (t : ℕ) → guarded-lts.Need-command-requires (guarded-calls t) (guarded-at t) guarded.Post
-guarded-command-requires t c κs = (omega (arith, c .before .before .before .before .before .before .before .before .before .before .before .before .before .before .before .before .before .pre .0), rw (c .skipped .ensures) (ready-headed (guarded-head t (c .before .before .before .before))))
+guarded-body-requires : (t : ℕ) → guarded-lts.Need-body-requires (guarded-calls t) (guarded-at t) guarded.Post
+guarded-body-requires t c κs = (omega (arith, c .before .before .before .before .before .before .before .before .before .before .before .before .before .before .before .before .before .pre .0), rw (c .skipped .ensures) (ready-headed (guarded-head t (c .before .before .before .before))))
 
 guarded-same-length-6 : (t : ℕ) → guarded-lts.Need-same-length-6 (guarded-calls t) (guarded-at t) guarded.Post
-guarded-same-length-6 t c = c .before .before .before .before .before .command .kept .1 .1 .1 .0 ∙ c .before .before .before .before .before .before .before .before .before .before .before .before .before .before .before .before .before .before .condition .kept .1 .1 .1 .0
+guarded-same-length-6 t c = c .before .before .before .before .before .body .kept .1 .1 .1 .0 ∙ c .before .before .before .before .before .before .before .before .before .before .before .before .before .before .before .before .before .before .condition .kept .1 .1 .1 .0
 
 guarded-returns-3 : (t : ℕ) → guarded-lts.Need-returns-3 (guarded-calls t) (guarded-at t) guarded.Post
 unfolding Reads one-instruction
-guarded-returns-3 t c = rw (c .enum-told3 .given .1) (body-leads (guarded-head t (c .before .before .before .before .before .before .before .before .before .before)) .refuses _ _ (rw (c .before .before .before .before .before .before .skipped .ensures, c .enum-told3 .given .1) at (c .before .before .before .before .before .command .ensures)))
+guarded-returns-3 t c = rw (c .enum-told3 .given .1) (body-leads (guarded-head t (c .before .before .before .before .before .before .before .before .before .before)) .refuses _ _ (rw (c .before .before .before .before .before .before .skipped .ensures, c .enum-told3 .given .1) at (c .before .before .before .before .before .body .ensures .1)))
 
 -- and the body
-guarded-body : (t : ℕ) (c : guarded-lts.After-t (guarded-calls t) (guarded-at t) guarded.Post) → let a = c .before .before .before .before .before .before .before .before .before .before .before .before .before .before .before .before .before .before .before .before .before .before .before .args in Bodied (a .again) (now (a .text)) (now (a .names)) (now (a .table)) (a .w) (a .allow) (c .before .before .before .before .before .before .before .before .before .before .before .before .before .before .before .r .given .0 .0) (c .before .before .before .before .before .before .before .before .before .before .before .before .before .before .before .r .given .0 .1 .0) (c .before .before .before .before .before .command .last .1 .1 .0) (c .before .before .before .before .before .command .last .1 .1 .1 .0) (c .t .given .0 .0) (c .t .given .0 .1 .0)
-guarded-body t c = record { table₁ = _; x = _; head = guarded-head t (c .before .before .before .before .before .before .before .before .before .before); body = got command-way (c .t .given .1) (rw (c .before .before .before .before .before .before .skipped .ensures) at (c .before .before .before .before .before .command .ensures)) }
+guarded-body : (t : ℕ) (c : guarded-lts.After-t (guarded-calls t) (guarded-at t) guarded.Post) → let a = c .before .before .before .before .before .before .before .before .before .before .before .before .before .before .before .before .before .before .before .before .before .before .before .args in Bodied (a .again) (now (a .text)) (now (a .names)) (now (a .table)) (a .w) (a .allow) (c .before .before .before .before .before .before .before .before .before .before .before .before .before .before .before .r .given .0 .0) (c .before .before .before .before .before .before .before .before .before .before .before .before .before .before .before .r .given .0 .1 .0) (c .before .before .before .before .before .body .ensures .0) (c .before .before .before .before .before .body .last .1 .1 .1 .0) (c .t .given .0 .0) (c .t .given .0 .1 .0)
+guarded-body t c = record { table₁ = _; x = _; head = guarded-head t (c .before .before .before .before .before .before .before .before .before .before); body = got command-way (c .t .given .1) (rw (c .before .before .before .before .before .before .skipped .ensures) at (c .before .before .before .before .before .body .ensures .1)) }
 
 guarded-ended-requires : (t : ℕ) → guarded-lts.Need-ended-requires (guarded-calls t) (guarded-at t) guarded.Post
 guarded-ended-requires t c κs = (body-small (guarded-body t (c .before .before)), code-fits (c .before .before .before .before .before .before .before .before .before .before .before .before .before .before .before .before .before .before .before .before .before .before .before .before .before .pre .1))
 
 guarded-same-length-8 : (t : ℕ) → guarded-lts.Need-same-length-8 (guarded-calls t) (guarded-at t) guarded.Post
-guarded-same-length-8 t c = c .before .before .put-jump-if-false .kept .0 ∙ c .before .before .before .before .before .ended .kept .0 ∙ c .before .before .before .before .before .before .before .before .before .before .before .before .before .command .kept .1 .1 .1 .0 ∙ c .before .before .before .before .before .before .before .before .before .before .before .before .before .before .before .before .before .before .before .before .before .before .before .before .before .before .condition .kept .1 .1 .1 .0
+guarded-same-length-8 t c = c .before .before .put-jump-if-false .kept .0 ∙ c .before .before .before .before .before .ended .kept .0 ∙ c .before .before .before .before .before .before .before .before .before .before .before .before .before .body .kept .1 .1 .1 .0 ∙ c .before .before .before .before .before .before .before .before .before .before .before .before .before .before .before .before .before .before .before .before .before .before .before .before .before .before .condition .kept .1 .1 .1 .0
 
 guarded-returns-4 : (t : ℕ) → guarded-lts.Need-returns-4 (guarded-calls t) (guarded-at t) guarded.Post
 unfolding encode
 guarded-returns-4 t c =
     let b = guarded-body t (c .before .before .before .before .before .before .before .before) in
-    rw (c .before .before .put-jump-if-false .ensures, c .before .before .before .before .before .ended .ensures .0, c .before .before .before .before .before .ended .ensures .1, operand-is _ (end-small b), c .larger .ensures)
+    rw (c .before .before .put-jump-if-false .ensures, c .before .before .before .before .before .ended .ensures .0, c .before .before .before .before .before .ended .ensures .1, operand-is _ (end-small b), c .larger .ensures, c .before .before .before .before .before .before .before .before .before .before .before .before .before .body .ensures .2)
     (done (guarded-way _) refl (guarded-read b))
 
-pub +block+command+guarded-spec : {M : Type 1} → statement M
-+block+command+guarded-spec =
-    close μ-block μ-command μ-guarded (λ t. block-lts.spec (block-calls t)
+pub +block+body+command+guarded-spec : {M : Type 1} → statement M
++block+body+command+guarded-spec =
+    close μ-block μ-body μ-command μ-guarded (λ t. block-lts.spec (block-calls t)
     (block-at t)
     block.Post
     block-Inv-loop
@@ -268,6 +289,16 @@ pub +block+command+guarded-spec : {M : Type 1} → statement M
     (λ c κs. search needs)
     (block-loop-less t)
     (block-loop-again t))
+    (λ t. body-lts.spec (body-calls t)
+    (body-at t)
+    body.Post
+    (λ c κs. search needs)
+    (λ c κs. search needs)
+    (body-command-requires t)
+    (λ c κs. search needs)
+    (λ c. search needs)
+    (λ c. search needs)
+    (body-returns t))
     (λ t. command-lts.spec (command-calls t)
     (command-at t)
     command.Post
@@ -309,7 +340,7 @@ pub +block+command+guarded-spec : {M : Type 1} → statement M
     (λ c. search needs)
     (guarded-returns-2 t)
     (guarded-skipped-requires t)
-    (guarded-command-requires t)
+    (guarded-body-requires t)
     (λ c. search needs)
     (λ c. search needs)
     (λ c. search needs)
