@@ -36,7 +36,7 @@ refusals =
     bytes "The text ends here, and the program is not finished. Is a } or a command missing?\n" ++
     bytes "This cannot stand here. Read the sentence aloud up to the mark: what should follow?\n" ++
     bytes "This is too deep: of ( { IF WHILE NOT only # may be open at once. Split the sentence.\n" ++
-    bytes "This name is not declared here. Write INT and the name before it, in this block or in one around it.\n" ++
+    bytes "This name is not declared here. Write INT and the name before it, in this block or one around it. The body of an IF or WHILE is a block too.\n" ++
     bytes "This is one declaration too many: a text may have #. Use fewer variables.\n" ++
     bytes "The program is too long: its code may have # instructions. Make it shorter.\n"
 

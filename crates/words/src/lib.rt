@@ -195,7 +195,7 @@ This word has more than # letters and digits. Choose a shorter one.
 The text ends here, and the program is not finished. Is a } or a command missing?
 This cannot stand here. Read the sentence aloud up to the mark: what should follow?
 This is too deep: of ( { IF WHILE NOT only # may be open at once. Split the sentence.
-This name is not declared here. Write INT and the name before it, in this block or in one around it.
+This name is not declared here. Write INT and the name before it, in this block or one around it. The body of an IF or WHILE is a block too.
 This is one declaration too many: a text may have #. Use fewer variables.
 The program is too long: its code may have # instructions. Make it shorter.
 ",
