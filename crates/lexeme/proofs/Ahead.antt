@@ -23,7 +23,7 @@ use Rattle.lexeme.proofs.Scans.{from-one, from-large, from-none, from-r
 abbrev pub From : List ℕ → ℕ → List Placed → Type 0
 From text at ls = (l : Lexeme) × (Is l ≡ coded (next text at)) × Ahead text l ls
 
-no-refusal : {A : Type 0} {a : A} {why : Refusal} {p : ℕ} → refused why p ≡ given a → ⊥
+pub no-refusal : {A : Type 0} {a : A} {why : Refusal} {p : ℕ} → refused why p ≡ given a → ⊥
 no-refusal h = let z : _≡_ {A = ℕ} 0 1 = cc in omega arith
 
 -- a literal that is not too large is a number

@@ -3,11 +3,10 @@ use mathlib.Core.Path.{_≡_, refl, sym, ap, _∙_}
 use mathlib.Core.List.{List, [], _∷_}
 use mathlib.Core.Bool.{Bool, true, false}
 use Prim.Native.Nat.{ℕ}
-use native.Mathlib.Omega.{arith}
-use Rattle.base.specs.declared.Refusal.{Refusal}
 use Rattle.base.specs.Answers.{Answer, given, refused, pass}
 use Rattle.base.specs.Bytes.{same}
 use Rattle.lexeme.specs.Lexemes.{Name}
+use Rattle.lexeme.proofs.Ahead.{no-refusal}
 use Rattle.sentence.specs.Sentences.{Kind, Sen, factor, term, expression, condition, command, commands, literal, variable, bracket, first, multiply, unsigned, signed, add, negated, compare, print, print-line, print-string, declare, input, assign, error, while, when, block, single, then}
 use Rattle.names.specs.Names.{Declaration, Scope, Known, Naming, _>>=_, give, look-up, used, opened, closed, scoped, resolve}
 
@@ -16,9 +15,6 @@ pub record Keeps {A : Type 0} (m : Naming A) : Type 0 where
   pub visible : (s : Scope) (k : Known A) → m s ≡ given k → k .scope .visible ≡ s .visible
 
 module _ {A : Type 0} where
-  never : {C : Type 0} {k : Known A} {why : Refusal} {p : ℕ} → refused why p ≡ given k → C
-  never e = let z : _≡_ {A = ℕ} 0 1 = cc in absurd (omega arith)
-
   same-visible : {j k : Known A} → given j ≡ given k → k .scope .visible ≡ j .scope .visible
   same-visible {j} {k} e = let h : j ≡ k = cc in ap (λ (i : Known A). i .scope .visible) (sym h)
 
@@ -33,7 +29,7 @@ module _ {A : Type 0} where
     where
       by : (s : Scope) (k : Known A) (o : Answer (Known A)) → pass o (λ a. given (record { what = a .what; scope = closed s (a .scope) })) ≡ given k → k .scope .visible ≡ s .visible
       by s k (given j) e = unfold pass closed in same-visible e
-      by s k (refused why p) e = unfold pass in never e
+      by s k (refused why p) e = unfold pass in absurd (no-refusal e)
 
   binds : {B : Type 0} {m : Naming B} {f : B → Naming A} → Keeps m → ((b : B) → Keeps (f b)) → Keeps (m >>= f)
   unfolding _>>=_
@@ -41,14 +37,14 @@ module _ {A : Type 0} where
     where
       by : (s : Scope) (k : Known A) (o : Answer (Known B)) → m s ≡ o → pass o (λ b. f (b .what) (b .scope)) ≡ given k → k .scope .visible ≡ s .visible
       by s k (given j) i e = unfold pass in q (j .what) .visible (j .scope) k e ∙ p .visible s j i
-      by s k (refused why p) i e = unfold pass in never e
+      by s k (refused why p) i e = unfold pass in absurd (no-refusal e)
 
 uses : (x : Name) → Keeps (used x)
 unfolding used look-up
 uses x = record { visible = λ s k. by s k (s .visible) }
   where
     by : (s : Scope) (k : Known ℕ) (ds : List Declaration) → look-up ds x s ≡ given k → k .scope .visible ≡ s .visible
-    by s k [] e = never e
+    by s k [] e = absurd (no-refusal e)
     by s k (d ∷ ds) e = either (by s k ds) (same (d .spelled) (x .spelled)) e
       where
         either : (look-up ds x s ≡ given k → k .scope .visible ≡ s .visible) → (b : Bool) → elim b as (λ _. Answer (Known ℕ)) [ true ↦ given (record { what = d .cell; scope = s }) | false ↦ look-up ds x s ] ≡ given k → k .scope .visible ≡ s .visible
