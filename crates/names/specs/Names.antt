@@ -9,7 +9,7 @@ use Rattle.base.specs.Bytes.{same}
 use Rattle.lexeme.specs.Lexemes.{Name}
 use Rattle.sentence.specs.Sentences.{Kind, Sen, command, literal, variable, bracket, first, multiply, unsigned, signed, add, negated, compare, print, print-line, print-string, declare, input, assign, error, while, when, block, single, then}
 
--- a declaration: how its name is spelled, its cell, and the block that it stands in: how many are open there
+-- a declaration: how its name is spelled, its cell, and the block that it stands in, of a brace or of a body: how many are open there
 pub record Declaration : Type 0 where
   pub spelled : List ℕ
   pub cell : ℕ
@@ -25,7 +25,7 @@ pub record Scope : Type 0 where
   pub next-cell : ℕ
   -- how many cells there are so far
   pub cells : ℕ
-  -- how many blocks are open
+  -- how many blocks are open, of braces and of bodies
   pub blocks : ℕ
 
 abbrev pub nothing-declared : Scope
