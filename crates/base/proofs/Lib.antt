@@ -1,3 +1,4 @@
+pub mod Matches
 pub mod Runs
 pub mod Words
 pub mod Unique

@@ -1,7 +1,7 @@
 -- Laws of words: that two are the same, what a digit word is worth, and parts of a text. Assumes nothing.
-use mathlib.Core.Path.{_≡_, refl, sym, ap, _∙_}
+use mathlib.Core.Path.{_≡_, refl, sym, ap, ap₂, _∙_}
 use mathlib.Core.List.{List, [], _∷_}
-use mathlib.Core.Bool.{Bool, true, false}
+use mathlib.Core.Bool.{Bool, true, false, false≢true}
 use Prim.Native.Nat.{ℕ, suc, _+_, _-_, _*_, _≤_, _<_, min}
 use native.Mathlib.Nat.{le-refl}
 use native.Mathlib.Numerals.{add-one}
@@ -9,7 +9,7 @@ use native.Mathlib.Omega.{arith, min-cases}
 use lib.Dec.{eqb}
 use lib.ListN.{length, getD, take, drop, length-drop, drop-of-length-le}
 use lib.Seq.{drop-cons, take-all}
-use borrow.Author.Tests.{eq-eqb, ne-eqb}
+use borrow.Author.Tests.{eqb-true, eq-eqb, ne-eqb}
 use Rattle.base.specs.Bytes.{same, value}
 use Rattle.base.specs.inner.Parts.{part}
 
@@ -42,6 +42,17 @@ same-long (x ∷ a) (y ∷ b) n = by-test (same-long a b (λ e. n (ap suc e))) (
     by-test : false ≡ same a b → (t : Bool) → false ≡ after a b t
     by-test e true = e
     by-test e false = refl
+
+pub same-equal : (a b : List ℕ) → same a b ≡ true → a ≡ b
+unfolding same
+same-equal [] [] h = refl
+same-equal [] (y ∷ b) h = absurd (false≢true h)
+same-equal (x ∷ a) [] h = absurd (false≢true h)
+same-equal (x ∷ a) (y ∷ b) h = by-test (same-equal a b) (eqb x y) refl h
+  where
+    by-test : (same a b ≡ true → a ≡ b) → (t : Bool) → eqb x y ≡ t → after a b t ≡ true → x ∷ a ≡ y ∷ b
+    by-test rest true e s = ap₂ _∷_ (eqb-true x y e) (rest s)
+    by-test rest false e s = absurd (false≢true s)
 
 pub value-on : (n : ℕ) (w : List ℕ) (i : ℕ) → i < length w → value (n * 10 + (getD w i 0 - 48)) (drop (i + 1) w) ≡ value n (drop i w)
 unfolding value

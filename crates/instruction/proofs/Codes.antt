@@ -1,9 +1,8 @@
 -- Operation numbers and operands, as the code's tests tell of them. Assumes nothing.
-use mathlib.Core.Path.{_≡_, refl, _∙_}
+use mathlib.Core.Path.{_≡_, refl}
 use mathlib.Core.Bool.{true, false}
 use mathlib.Core.Option.{none, some}
-use Prim.Native.Nat.{ℕ, zero, suc, _≤_, _<_}
-use native.Mathlib.Decide.{ℕ-discrete}
+use Prim.Native.Nat.{ℕ, _≤_, _<_}
 use native.Mathlib.Omega.{arith}
 use lib.Dec.{T, eqb, lit<}
 use lib.IntN.{ℤ, pos, negsuc, natAbs}
@@ -11,7 +10,8 @@ use lib.Signed.{ltZ, nonNeg}
 use mir.Syntax.{w32, w64}
 use mir.Val.{Fits, SFits, toZ, ofZ}
 use mir.Facts.{toZ-ofZ, fits-natAbs}
-use borrow.Author.Tests.{ne-eqb, ltb-true, le-ltb}
+use borrow.Author.Tests.{ltb-true, le-ltb}
+use Rattle.base.proofs.Matches.{none-of, miss}
 use Rattle.instruction.specs.Instructions.{Instruction, number, encode, natural, halting, opcode, operation, decode}
 use Rattle.numbers.proofs.Signed.{from-bits, not-below}
 
@@ -50,19 +50,6 @@ no-halting (pos n) p q = rw (le-ltb n 2 (past n p q))
     past : (n : ℕ) → (n ≡ 0 → ⊥) → (n ≡ 1 → ⊥) → 2 ≤ n
     past n p q = omega (arith, p, q)
 no-halting (negsuc n) p q = refl
-
--- n is none of 1 to k
-abbrev pub none-of : ℕ → ℕ → Type 0
-none-of zero n = Unit {0}
-none-of (suc k) n = none-of k n × (n ≡ suc k → ⊥)
-
-miss : (k n : ℕ) → none-of k n → (j : ℕ) → 0 < j → j ≤ k → eqb n j ≡ false
-miss zero n r j p q = absurd (omega arith)
-miss (suc k) n r j p q = by (ℕ-discrete j (suc k)) (miss k n (r .0) j p)
-  where
-    by : Dec (j ≡ suc k) → (j ≤ k → eqb n j ≡ false) → eqb n j ≡ false
-    by (yes e) f = ne-eqb n j (λ (h : n ≡ j). r .1 (h ∙ e))
-    by (no e) f = f (omega (arith, e))
 
 -- a number that is none of 1 to 19 is no operation
 pub no-operation : (z a : ℤ) → none-of 19 (ofZ w32 z) → none ≡ decode z a
