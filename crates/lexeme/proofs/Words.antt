@@ -1,41 +1,17 @@
 -- Laws of words and strings, each at the place where a loop or a test stands. Assumes nothing.
-use mathlib.Core.Path.{_≡_, refl, sym, ap, _∙_}
-use mathlib.Core.List.{List, [], _∷_}
+use mathlib.Core.Path.{_≡_, refl, _∙_}
+use mathlib.Core.List.{List}
 use mathlib.Core.Bool.{Bool, true, false}
 use Prim.Native.Nat.{ℕ, _+_, _≤_, _<_}
 use native.Mathlib.Omega.{arith}
-use lib.ListN.{length, getD, drop, length-drop}
+use lib.ListN.{length, drop, length-drop}
 use lib.Seq.{drop-drop}
 use borrow.Author.Tests.{le-leb, lt-leb}
 use Rattle.base.specs.declared.Refusal.the-variants.{NoLexeme}
 use Rattle.base.specs.Answers.{refused}
 use Rattle.base.proofs.Runs.{all-own, begins-as, run-begins, run-alone, run-mixed, run-begun, small-is, letter-is, digit-is, digit-not-small, digit-apart, letter-apart, letters-first, digits-first}
-use Rattle.base.specs.Bytes.{small, letter, digit, letter-or-digit, no-quote, run, begins, all, same, value}
-use Rattle.lexeme.specs.Lexemes.{Keyword, keywords, lit, name, fixed, capital-word, word, string, string-at, found}
-use Rattle.lexeme.specs.inner.Coded.{code-of, kind-of}
-use Rattle.lexeme.specs.declared.Kind.{Kind}
-use Rattle.lexeme.specs.declared.Kind.the-variants.{Fixed}
-
--- of the keywords ks, those before the rest are not the word
-pub record Left (rest ks : List Keyword) (w : List ℕ) : Type 0 where
-  pub same-kind : (p : ℕ) → kind-of (capital-word rest p w) ≡ kind-of (capital-word ks p w)
-
-pub all-left : (ks : List Keyword) {w : List ℕ} → Left ks ks w
-all-left ks = record { same-kind = λ p. refl }
-
--- a word after the test of a keyword
-abbrev after-keyword : Keyword → List Keyword → List ℕ → ℕ → Bool → Kind
-after-keyword k rest w p t = kind-of (elim t [ true ↦ fixed (k .means) | false ↦ capital-word rest p w ])
-
--- the first keyword that is left is the word, or is not
-module _ {k : Keyword} {rest ks : List Keyword} {w : List ℕ} (left : Left (k ∷ rest) ks w) {r : Bool} (tested : r ≡ same w (k .spelled)) where
-  pub keyword-hit : r ≡ true → (p : ℕ) → Fixed (code-of (k .means)) ≡ kind-of (capital-word ks p w)
-  unfolding capital-word kind-of
-  keyword-hit h p = ap (after-keyword k rest w p) (sym h ∙ tested) ∙ left .same-kind p
-
-  pub keyword-miss : r ≡ false → Left rest ks w
-  unfolding capital-word
-  keyword-miss h = record { same-kind = λ p. ap (after-keyword k rest w p) (sym h ∙ tested) ∙ left .same-kind p }
+use Rattle.base.specs.Bytes.{small, letter, digit, letter-or-digit, no-quote, run, begins, all, value}
+use Rattle.lexeme.specs.Lexemes.{keywords, lit, name, capital-word, word, string, string-at, found}
 
 -- a word at p, where e is the place after the letters, or the digits, that it begins with
 module _ (text : List ℕ) (p e : ℕ) where
