@@ -8,7 +8,7 @@ use base::Refusal;
 pub mod fixed;
 mod keyword;
 
-// What a lexeme is. A literal has its value, or the largest number where that is beyond it. Of the fixed ones a symbol is its byte, `:=` that of its colon, and a keyword its number in alphabetical order, from 1; the end of the text is one too, 0: specs/Coded.antt has the table.
+// What a lexeme is. A literal has its value, or the largest number where that is beyond it. Of the fixed ones a symbol is its byte, `:=` that of its colon, and a keyword its number in alphabetical order, from 1; the end of the text is one too, 0: specs/inner/Coded.antt has the table.
 pub enum Kind {
     Literal(u32),
     Name,
