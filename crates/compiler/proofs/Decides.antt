@@ -73,7 +73,7 @@ module _ (limit : ℕ) (text names : List ℕ) (table : List ℤ) (place : ℕ) 
   unfolding Reads-program
   ran {v} {g} is =
       let e : Reads-program limit text names table place (read.Done v g) names′ table′ = rw is at d in
-      record { tree = e .0; reads = λ sizes ls small lx. e .1 ls (from-start text sizes ls small lx); lays = e .2; within = e .3; fresh = nothing-scope names (o .zeros) text }
+      record { tree = e .0; reads = λ sizes ls small lx. e .1 ls (from-start text sizes ls small lx); lays = e .2; within = e .3; fresh = nothing-scope names (o .none) text }
 
   not-read : {why : Refusal} {p : ℕ} → r ≡ read.Refused why p → (sizes : Sizes) (ls : List Placed) → sizes .literal ≤ 2147483647 → lexemes sizes text ≡ given ls → read limit ls ≡ refused why p
   unfolding Reads-program

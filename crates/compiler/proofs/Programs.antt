@@ -1,19 +1,19 @@
 -- How a whole Program is read: a law for each way that its reader comes to an answer. Assumes nothing.
-use mathlib.Core.Path.{_≡_, refl, subst}
+use mathlib.Core.Path.{_≡_, subst}
 use mathlib.Core.List.{List}
 use mathlib.Core.Logic.{inl, inr}
-use Prim.Native.Nat.{ℕ, zero, suc, _+_, _*_, _≤_}
+use Prim.Native.Nat.{ℕ, _≤_}
 use native.Mathlib.Nat.{le-refl}
 use native.Mathlib.Omega.{arith}
 use lib.IntN.{ℤ}
-use lib.ListN.{length, getD, replicate}
+use lib.ListN.{length}
 use Rattle.base.specs.declared.Refusal.{Refusal}
 use Rattle.base.specs.declared.Refusal.the-variants.{NoProgram}
 use Rattle.lexeme.specs.Lexemes.{Placed, DO, end}
 use Rattle.lexeme.specs.inner.Coded.{code-of, fixed-number, Ahead}
 use Rattle.lexeme.specs.declared.Lexeme.{Lexeme}
 use Rattle.lexeme.proofs.Decoded.{number-fixed}
-use Rattle.names.proofs.Held.{nothing-sound}
+use Rattle.names.proofs.Held.{nothing-sound, count-none}
 use Rattle.compiler.specs.declared.walk.Walk.{Walk}
 use Rattle.compiler.specs.declared.walk.Gives.{Gives}
 use Rattle.compiler.specs.declared.walk.Read.{Read}
@@ -24,17 +24,6 @@ use Rattle.compiler.proofs.Reading.{Met, met}
 use Rattle.compiler.proofs.Commands.{command-way, program-read, program-unended, program-refused, no-program}
 use Rattle.compiler.proofs.Replies.{Got, got, barred, past, unread, ready-past}
 use Rattle.compiler.proofs.Lays.{lead}
-
--- ---- the lent list, before a text: zeros
-
-zero-at : (n i : ℕ) → _≡_ {A = ℕ} (getD (replicate n 0) i 0) 0
-zero-at zero i = refl
-zero-at (suc n) zero = refl
-zero-at (suc n) (suc i) = zero-at n i
-
--- five counts, and four numbers for each of 64 declarations
-pub nothing-yet : (i : ℕ) → _≡_ {A = ℕ} (getD (replicate (5 + 64 * 4) 0) i 0) 0
-nothing-yet = zero-at (5 + 64 * 4)
 
 -- ---- the first lexemes
 
@@ -87,7 +76,7 @@ module _ {text names : List ℕ} {place : ℕ} {x : Walk} (b : Begun text names 
       started : Ready text names (b .start) limit
       started =
           rw (b .first .moved)
-          (record { stands = b .first .follows .stands; short = b .set-out .short; code = omega (arith, b .set-out .code); sound = nothing-sound names (b .set-out .zeros) (b .set-out .head) (b .set-out .size); allowed = omega (arith, b .set-out .zeros 4) })
+          (record { stands = b .first .follows .stands; short = b .set-out .short; code = omega (arith, b .set-out .code); sound = nothing-sound names (b .set-out .none) (b .set-out .head) (b .set-out .size); allowed = omega (arith, count-none names (b .set-out .none) (λ s. s .blocks)) })
 
   module _ (names′ : List ℕ) (table table′ : List ℤ) {r : Read} (d : Reads-command text names table x limit r names′ table′) where
     pub command-refused : {why : Refusal} {p : ℕ} → r ≡ Refused why p → Reads-program limit text names table place r names′ table′

@@ -17,30 +17,34 @@ use Rattle.base.specs.inner.Parts.{part}
 use Rattle.lexeme.specs.Lexemes.{Name}
 use Rattle.names.specs.Names as N
 use Rattle.names.specs.Names.{Declaration, Known, nothing-declared, look-up, used, one-more, declared-here, opened, closed}
-use Rattle.names.specs.inner.Held.{counts, with-counts, one-up, room, held, visible-in, scope-in, latest, declared-scope, entered, declared-in, opened-scope, opened-in, closed-scope, closed-in, Sound, Kept}
+use Rattle.names.specs.inner.Held.{counts, no-counts, with-counts, one-up, room, held, visible-in, scope-in, latest, declared-scope, entered, declared-in, opened-scope, opened-in, closed-scope, closed-in, Sound, Kept}
 use Rattle.names.specs.declared.Scope.{Scope}
 use Rattle.names.specs.declared.Cell.{Cell}
 use Rattle.names.specs.declared.Cell.the-variants.{At, Nowhere}
 use Rattle.names.proofs.Found.{visible-suc}
 
--- ---- the beginning of a text: a list of zeros
+-- ---- the beginning of a text
 
-module _ (names : List ℕ) (zeros : (i : ℕ) → getD names i 0 ≡ 0) where
+module _ (names : List ℕ) (none : counts names ≡ no-counts) where
+  -- so each of them is 0
+  pub count-none : (f : Scope → ℕ) → f (counts names) ≡ f no-counts
+  count-none f = ap f none
+
   pub nothing-sound : 5 ≤ length names → length names ≤ 1000000 → Sound names
   nothing-sound h s = record {
     head = h;
     size = s;
-    visible = omega (arith, zeros 0);
-    next-cell = omega (arith, zeros 2);
-    cells = omega (arith, zeros 3);
-    declared = omega (arith, zeros 1);
-    blocks = omega (arith, zeros 4);
-    low = λ k q. absurd (omega (arith, zeros 0));
+    visible = omega (arith, count-none (λ s. s .visible));
+    next-cell = omega (arith, count-none (λ s. s .«next_cell»));
+    cells = omega (arith, count-none (λ s. s .cells));
+    declared = omega (arith, count-none (λ s. s .declared));
+    blocks = omega (arith, count-none (λ s. s .blocks));
+    low = λ k q. absurd (omega (arith, count-none (λ s. s .visible)));
   }
 
   pub nothing-scope : (text : List ℕ) → scope-in text names ≡ nothing-declared
   unfolding scope-in visible-in
-  nothing-scope text = rw (zeros 0, zeros 1, zeros 2, zeros 3, zeros 4)
+  nothing-scope text = rw (count-none (λ s. s .visible), count-none (λ s. s .declared), count-none (λ s. s .«next_cell»), count-none (λ s. s .cells), count-none (λ s. s .blocks))
 
 -- ---- a use
 

@@ -1,13 +1,13 @@
 -- `compiler::measured` meets its contract. Assumes nothing.
+use mathlib.Core.Path.{refl}
 use native.Mathlib.Omega.{arith}
 use Rattle.compiler.proofs.Decides.{counted, by-reading, by-naming}
-use Rattle.compiler.proofs.Programs.{nothing-yet}
 use borrow.Author.Needs.{needs}
 use Rattle.compiler.proofs.measured.Statement.{statement}
 use Rattle.compiler.proofs.measured.Tie as tie
 
 program-requires : tie.Need-program-requires
-program-requires c κs = record { short = omega (arith, c .before .before .before .pre); code = omega arith; head = search needs; size = search needs; zeros = nothing-yet }
+program-requires c κs = record { short = omega (arith, c .before .before .before .pre); code = omega arith; head = search needs; size = search needs; none = refl }
 
 add-settled : tie.Need-add-settled
 add-settled c = rw (c .before .before .counts .ensures) (let k = counted _ _ _ _ _ (program-requires (c .before .before .before .before .before .before .before .before .before .before) (c .before .before .before .before .before .before .before .before .before .program .lifetimes)) _ _ (c .before .before .before .before .before .before .before .before .before .program .ensures) (c .before .before .before .before .before .r2 .given .1) in omega (arith, k .few, k .need))

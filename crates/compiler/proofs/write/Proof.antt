@@ -1,13 +1,13 @@
 -- `compiler::write` meets its contract. Assumes nothing.
+use mathlib.Core.Path.{refl}
 use native.Mathlib.Omega.{arith}
 use Rattle.compiler.proofs.Decides.{not-written, written}
-use Rattle.compiler.proofs.Programs.{nothing-yet}
 use borrow.Author.Needs.{needs}
 use Rattle.compiler.proofs.write.Statement.{statement}
 use Rattle.compiler.proofs.write.Tie as tie
 
 program-requires : tie.Need-program-requires
-program-requires c κs = record { short = omega (arith, c .before .before .before .before .before .before .pre); code = omega (arith, c .before .before .before .before .before .before .pre); head = search needs; size = search needs; zeros = nothing-yet }
+program-requires c κs = record { short = omega (arith, c .before .before .before .before .before .before .pre); code = omega (arith, c .before .before .before .before .before .before .pre); head = search needs; size = search needs; none = refl }
 
 returns : tie.Need-returns
 returns c = not-written _ _ _ _ _ (program-requires (c .before .before .before .before .before) (c .before .before .before .before .program .lifetimes)) _ _ (rw (c .before .before .before .before .before .before .before .before .put-cells .ensures) at (c .before .before .before .before .program .ensures)) (c .enum-told .given .1)

@@ -5,7 +5,7 @@ use mathlib.Core.Bool.{Bool, true, false, cond}
 use Prim.Native.Nat.{ℕ, suc, _+_, _*_, _≤_, _<_}
 use lib.Dec.{ltb, eqb}
 use lib.IntN.{ℤ}
-use lib.ListN.{length, getD}
+use lib.ListN.{length}
 use Rattle.base.specs.declared.Refusal.{Refusal}
 use Rattle.base.specs.declared.Refusal.the-variants.{NoProgram, TooDeep}
 use Rattle.base.specs.inner.Parts.{part}
@@ -18,7 +18,7 @@ use Rattle.lexeme.specs.declared.Found.the-variants as reply
 use Rattle.sentence.specs.Sentences.{Kind, Sen, factor, term, expression, condition, command, commands}
 use Rattle.sentence.proofs.Reader.{Around, depth, State, in-first, in-left, in-print, in-while, in-when, in-block, want-factor, want-expression, want-condition, want-command, want-line, want-string, want-declared, want-read, want-becomes, step, verdict, goes-on, is-whole, begins-none, whole, read-from, read, got-factor, whole-term, after-expression, whole-expression, after-condition, after-command}
 use Rattle.names.specs.Names.{Scope, Known, resolve}
-use Rattle.names.specs.inner.Held.{counts, room, scope-in, opened-in, closed-in, Sound, Kept}
+use Rattle.names.specs.inner.Held.{counts, no-counts, room, scope-in, opened-in, closed-in, Sound, Kept}
 use Rattle.meaning.specs.Layout as layout
 use Rattle.meaning.proofs.Sizes.{size}
 use Rattle.compiler.specs.declared.walk.Walk.{Walk}
@@ -188,7 +188,7 @@ pub record Set-out (text names : List ℕ) (from : ℕ) : Type 0 where
   pub code : from ≤ 1000000
   pub head : 5 ≤ length names
   pub size : length names ≤ 1000000
-  pub zeros : (i : ℕ) → getD names i 0 ≡ 0
+  pub none : counts names ≡ no-counts
 
 -- its counts are in the range of the code's numbers
 pub record Counted (cells : ℕ) (w : Walk) (g : Gives) : Type 0 where

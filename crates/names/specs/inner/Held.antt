@@ -19,6 +19,10 @@ use Rattle.names.specs.declared.Cell.the-variants.{At, Nowhere}
 abbrev pub counts : List ℕ → Scope
 counts names = record { visible = getD names 0 0; declared = getD names 1 0; «next_cell» = getD names 2 0; cells = getD names 3 0; blocks = getD names 4 0 }
 
+-- before a text: nothing is declared, and no block is open
+abbrev pub no-counts : Scope
+no-counts = record { visible = 0; declared = 0; «next_cell» = 0; cells = 0; blocks = 0 }
+
 unfoldable pub with-counts : List ℕ → Scope → List ℕ
 with-counts names s = sets names 0 (s .visible ∷ s .declared ∷ s .«next_cell» ∷ s .cells ∷ s .blocks ∷ [])
 
