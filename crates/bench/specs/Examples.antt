@@ -1,7 +1,7 @@
 -- Document 01, "Bench examples": the starred ones, as they stand since document 02; T-02's own; the slips in class; and document 001's `fac0` (its listings 6.2 and 6.3 and its table 6.3).
 use mathlib.Core.Path.{_≡_}
 use mathlib.Core.List.{List, [], _∷_}
-use Prim.Native.Nat.{ℕ}
+use Prim.Native.Nat.{ℕ, _*_}
 use Prim.Native.String.{String}
 use lib.IntN.{ℤ, pos}
 use Rattle.limits.specs.Limits.{Limits}
@@ -36,9 +36,13 @@ by-machine e a = whole-run (record { text = e .text; table = numbers (code-of-te
 unfoldable pub by-sentences : Example → Accepted → Report
 by-sentences e a = worked-out (e .readings) 4096 (e .budget) a
 
--- the definitions yield the row by both, with a code table of 8,192 numbers
+-- a code table that holds any text's code: two numbers for each instruction
+abbrev pub whole-table : Limits → ℕ
+whole-table limits = limits .instructions * 2
+
+-- the definitions yield the row by both, with such a code table
 abbrev pub Yields : Limits → Example → Type 0
-Yields limits e = With-answer (Compiled limits (e .text) 8192) (λ a. (yield (by-machine e) a ≡ e .comes-to) × (yield (by-sentences e) a ≡ e .comes-to))
+Yields limits e = With-answer (Compiled limits (e .text) (whole-table limits)) (λ a. (yield (by-machine e) a ≡ e .comes-to) × (yield (by-sentences e) a ≡ e .comes-to))
 
 unfoldable pub Each-yields : Limits → List Example → Type 0
 Each-yields limits [] = Unit {0}
