@@ -1,5 +1,6 @@
 // The answer to a text, and what is left in its table.
 use libc::STDOUT_FILENO;
+use limits::Limits;
 use tables::Answer;
 use tells::LISTING;
 
@@ -25,7 +26,7 @@ fn is_clean(table: &[i32], from: usize) -> bool {
 fn numbers(a: Answer) -> usize {
     match a {
         Answer::Accepted(c) => {
-            if 5000 < c.instructions {
+            if Limits::INSTRUCTIONS < c.instructions {
                 return 0;
             }
             c.instructions * 2
@@ -50,7 +51,7 @@ fn say_first_line(page: &[u8; LISTING]) {
 // The answer without its instructions.
 pub fn say_answer(a: Answer) {
     let mut page = [0u8; LISTING];
-    tells::list(a, &[0i32; 8192], &mut page);
+    tells::list(a, &[0i32; Limits::INSTRUCTIONS * 2], &mut page);
     say_first_line(&page);
 }
 
@@ -60,7 +61,7 @@ fn say_first(page: &[u8; LISTING], n: usize) {
 
 // The listing of a text, in a table that held other numbers.
 pub fn list(text: &[u8]) {
-    let mut table = [7i32; 8192];
+    let mut table = [7i32; Limits::INSTRUCTIONS * 2];
     let mut page = [0u8; LISTING];
     let a = compiled(text, &mut table);
     let s = tells::list(a, &table, &mut page);

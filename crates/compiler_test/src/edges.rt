@@ -1,5 +1,6 @@
 // Texts at the limits, put together from pieces.
 use crate::answers;
+use limits::Limits;
 
 // The place after a piece that was put so many times.
 fn many(text: &mut [u8], at: usize, piece: &[u8], n: usize) -> usize {
@@ -13,7 +14,7 @@ fn many(text: &mut [u8], at: usize, piece: &[u8], n: usize) -> usize {
 }
 
 fn answer(text: &[u8]) {
-    let mut table = [7i32; 8192];
+    let mut table = [7i32; Limits::INSTRUCTIONS * 2];
     answers::say_answer(answers::compiled(text, &mut table));
 }
 
@@ -33,7 +34,7 @@ fn put_nested(
 
 // The same after a beginning.
 pub fn nested(first: &[u8], open: &[u8], n: usize, middle: &[u8], close: &[u8]) {
-    let mut text = [0u8; 16385];
+    let mut text = [0u8; Limits::TEXT + 1];
     let a = lines::put(&mut text, 0, first);
     let e = put_nested(&mut text, a, open, n, middle, close);
     answer(base::part(&text, 0, e));

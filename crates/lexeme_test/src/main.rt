@@ -5,6 +5,7 @@ use lexeme::Kind;
 use lexeme::Lexeme;
 use lexeme::fixed;
 use libc::STDIN_FILENO;
+use limits::Limits;
 
 fn say(text: &[u8]) {
     io::write_all(1, text);
@@ -103,10 +104,10 @@ fn say_long(label: &[u8], text: &[u8]) {
 }
 
 fn lengths() {
-    let most = [b' '; 16384];
-    say_long(b"16384 bytes", &most);
-    let over = [b' '; 16385];
-    say_long(b"16385 bytes", &over);
+    let most = [b' '; Limits::TEXT];
+    say_long(b"49152 bytes", &most);
+    let over = [b' '; Limits::TEXT + 1];
+    say_long(b"49153 bytes", &over);
 }
 
 fn main() {

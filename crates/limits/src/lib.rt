@@ -1,9 +1,9 @@
-// The numbers of document 01. Each stands here and nowhere else: code and contracts read it from here.
+// The numbers of document 01, and since T-04 those of document 02. Each stands here and nowhere else: code and contracts read it from here.
 pub struct Limits {}
 
 impl Limits {
     // Bytes of a text: refusal 1.
-    pub const TEXT: usize = 16384;
+    pub const TEXT: usize = 49152;
 
     // Letters and digits of a name, letters of a class name: refusal 3.
     pub const WORD: usize = 32;
@@ -18,10 +18,10 @@ impl Limits {
     pub const NESTING: usize = 32;
 
     // Declarations of a text: refusal 7.
-    pub const DECLARATIONS: usize = 64;
+    pub const DECLARATIONS: usize = 256;
 
     // Instructions of a text's code: refusal 8.
-    pub const INSTRUCTIONS: usize = 4096;
+    pub const INSTRUCTIONS: usize = 8192;
 }
 
 // What the paper's second program gives a run.

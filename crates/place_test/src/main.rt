@@ -2,6 +2,7 @@
 // A case of standard input is a label, a text and a place, between bars; those after `#` come after the longest line.
 use libc::STDIN_FILENO;
 use libc::STDOUT_FILENO;
+use limits::Limits;
 
 fn see(label: &[u8], text: &[u8], place: usize) {
     let mut page = [0u8; 400];
@@ -17,17 +18,17 @@ fn see(label: &[u8], text: &[u8], place: usize) {
     io::write_all(STDOUT_FILENO, base::part(&page, 0, c));
 }
 
-fn sixteen_thousand() {
-    let mut text = [b'-'; 16000];
+fn longest_line() {
+    let mut text = [b'-'; Limits::TEXT];
     text[0] = b'<';
-    text[8000] = b'X';
-    text[15999] = b'>';
-    see(b"16000 bytes, at 0", &text, 0);
-    see(b"16000 bytes, at 8000", &text, 8000);
-    see(b"16000 bytes, at 16000", &text, 16000);
-    text[7900] = b'\n';
-    see(b"16000 bytes, a line feed at 7900, at 7900", &text, 7900);
-    see(b"16000 bytes, a line feed at 7900, at 8000", &text, 8000);
+    text[40000] = b'X';
+    text[Limits::TEXT - 1] = b'>';
+    see(b"49152 bytes, at 0", &text, 0);
+    see(b"49152 bytes, at 40000", &text, 40000);
+    see(b"49152 bytes, at 49152", &text, Limits::TEXT);
+    text[39900] = b'\n';
+    see(b"49152 bytes, a line feed at 39900, at 39900", &text, 39900);
+    see(b"49152 bytes, a line feed at 39900, at 40000", &text, 40000);
 }
 
 // A page that is too short keeps what there is room for.
@@ -57,7 +58,7 @@ fn each(all: &[u8]) {
 
 fn tried(all: &[u8]) {
     each(rows::nth(all, b'#', 0));
-    sixteen_thousand();
+    longest_line();
     each(rows::nth(all, b'#', 1));
 }
 

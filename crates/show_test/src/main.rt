@@ -32,14 +32,26 @@ fn see(text: &[u8], input: &[u8]) {
     see_run(text, &numbers, count);
 }
 
-// A sum of so many ones that its code is one instruction too long.
-fn too_much_code() {
-    let mut text = [b'1'; 4105];
-    let mut i = 11;
-    while i < text.len() {
-        text[i] = b'+';
-        i += 2;
+fn one_or_plus(i: usize) -> u8 {
+    if i % 2 == 0 {
+        return b'1';
     }
+    b'+'
+}
+
+// Ones, and a plus between any two.
+fn put_sum(text: &mut [u8]) {
+    let mut i = 0;
+    while i < text.len() {
+        text[i] = one_or_plus(i);
+        i += 1;
+    }
+}
+
+// A sum of so many ones that its code is one instruction too long: it has eight fewer than the text has bytes.
+fn too_much_code() {
+    let mut text = [0u8; Limits::INSTRUCTIONS + 9];
+    put_sum(&mut text);
     lines::put(&mut text, 0, b"DO PRINTI ");
     see(&text, b"");
 }
