@@ -53,8 +53,8 @@ void o_run(const uint8_t *text, size_t text_length,
  * report[6] how many bytes of `out` may be sent on to the feed: the length with ending 0, and 0 with any other.
  * On a refusal report[2] to report[6] are 0, the table is all zeros, and stack and `out` are as they were. Else the
  * table is the code and then zeros, the whole stack is 0, and the bytes of `out` past the output are as they were. On a
- * stack shorter than the text's need the run may end with 6; with 8,192 numbers of table and 4,096 cells of stack every
- * text that can be accepted is, and none ends with 6 or 8.
+ * stack shorter than the text's need the run may end with 6; with 16,384 numbers of table and 8,192 cells of stack
+ * every text that can be accepted is, and none ends with 6 or 8.
  */
 void o_run_text(const uint8_t *text, size_t text_length,
                 const int32_t *readings, size_t readings_length,
