@@ -2,29 +2,35 @@
 use mathlib.Core.Path.{_≡_, refl, sym, ap, _∙_}
 use mathlib.Core.List.{List, [], _∷_}
 use mathlib.Core.Bool.{Bool, true, false, cond}
-use Prim.Native.Nat.{ℕ, zero, suc, _-_, _≤_, _<_, min}
+use Prim.Native.Nat.{ℕ, zero, suc, _+_, _-_, _≤_, _<_, min}
 use native.Mathlib.Omega.{arith}
 use lib.Dec.{ltb}
-use lib.ListN.{length, getD, take, drop}
-use lib.Seq.{drop-cons}
-use borrow.Author.Tests.{ne-eqb, lt-ltb, ltb-true, ltb-false}
+use lib.ListN.{length, getD, take, drop, length-drop}
+use lib.Seq.{length-take-le, getD-take, getD-drop}
+use borrow.Author.Tests.{lt-ltb, ltb-true, ltb-false}
 use Rattle.base.specs.Bytes.{same}
 use Rattle.base.specs.inner.Parts.{part}
+use Rattle.base.proofs.Words.{same-equal}
 use Rattle.names.specs.Names.{Declaration}
 use Rattle.names.specs.inner.Held.{room, held, visible-in, latest}
 use Rattle.names.specs.declared.Cell.{Cell}
 use Rattle.names.specs.declared.Cell.the-variants.{At, Nowhere}
 
--- a word with another first letter
-other-first : (n x : ℕ) (xs word : List ℕ) → 0 < length word → (x ≡ getD word 0 0 → ⊥) → false ≡ same (take n (x ∷ xs)) word
-unfolding same
-other-first n x xs [] h d = absurd (omega arith)
-other-first zero x xs (w ∷ ws) h d = refl
-other-first (suc n) x xs (w ∷ ws) h d = rw (ne-eqb x w d, same)
+-- a word with another last letter
+module _ (text : List ℕ) (e : ℕ) (word : List ℕ) (within : e ≤ length text) (some : 0 < length word) (p : ℕ) where
+  last-letter : part text p e ≡ word → getD text (e - 1) 0 ≡ getD word (length word - 1) 0
+  unfolding part
+  last-letter q =
+      let n : length word ≡ e - p = sym (ap length q) ∙ length-take-le (e - p) (drop p text) (omega (arith, length-drop p text)) in
+      let i : p + (e - p - 1) ≡ e - 1 = omega arith in
+      rw (n, ← q, getD-take (e - p) (drop p text) (e - p - 1) 0 (omega arith), getD-drop p text (e - p - 1) 0, i)
 
-pub other-letter : (text : List ℕ) (p : ℕ) (word : List ℕ) → p < length text → 0 < length word → (getD text p 0 ≡ getD word 0 0 → ⊥) → (e : ℕ) → false ≡ same (part text p e) word
-unfolding part
-other-letter text p word h k d e = rw (drop-cons text p 0) (other-first (e - p) (getD text p 0) (drop (suc p) text) word k d)
+  pub other-letter : (getD text (e - 1) 0 ≡ getD word (length word - 1) 0 → ⊥) → false ≡ same (part text p e) word
+  other-letter d = by (same (part text p e) word) refl
+    where
+      by : (b : Bool) → same (part text p e) word ≡ b → false ≡ b
+      by true s = absurd (d (last-letter (same-equal (part text p e) word s)))
+      by false s = refl
 
 -- the cell of a list's first declaration, or of a later one
 abbrev picked : Declaration → List Declaration → List ℕ → Bool → Cell

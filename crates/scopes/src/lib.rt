@@ -79,30 +79,33 @@ fn room(names: &[usize]) -> usize
 
 // ---- a use
 
-// Whether the word is another than any that begins at the place p, by its first letter.
-fn is_other(text: &[u8], p: usize, word: &[u8]) -> bool
-    ensures { λ r. ⌜ (r ≡ true → (e : ℕ) → false ≡ same (part (now (text .entry)) p e) (now (word .entry))) ⌝ }
+// Whether the word is another than any that ends before the place e, by its last letter.
+fn is_other(text: &[u8], e: usize, word: &[u8]) -> bool
+    ensures { λ r. ⌜ (r ≡ true → (p : ℕ) → false ≡ same (part (now (text .entry)) p e) (now (word .entry))) ⌝ }
 {
     if word.len() == 0 {
         return false;
     }
-    if text.len() <= p {
+    if e == 0 {
         return false;
     }
-    text[p] != word[0]
+    if text.len() < e {
+        return false;
+    }
+    text[e - 1] != word[word.len() - 1]
 }
 
-// Whether the k-th declaration of the list is spelled like the word. Most begin with another letter.
+// Whether the k-th declaration of the list is spelled like the word. Most end with another letter or digit, numbered ones too.
 fn is_named(text: &[u8], names: &[usize], k: usize, word: &[u8]) -> bool
     requires { ⌜ k < room (now names) ⌝ }
     ensures { λ r. ⌜ r ≡ same (held (now (text .entry)) (now (names .entry)) k .spelled) (now (word .entry)) ⌝ }
 {
     let at = COUNTS + k * ENTRY;
-    let p = names[at];
-    if is_other(text, p, word) {
+    let e = names[at + 1];
+    if is_other(text, e, word) {
         return false;
     }
-    let e = names[at + 1];
+    let p = names[at];
     base::is_same(base::part(text, p, e), word)
 }
 

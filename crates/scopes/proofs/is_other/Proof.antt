@@ -15,9 +15,12 @@ returns-2 : tie.Need-returns-2
 returns-2 c = λ h. let z : _≡_ {A = ℕ} 0 1 = cc in absurd (omega arith)
 
 returns-3 : tie.Need-returns-3
-returns-3 c = λ h. other-letter _ _ _ (c .before .before .if2 .left) (omega arith) (eqb-false _ _ (not-true _ h))
+returns-3 c = λ h. let z : _≡_ {A = ℕ} 0 1 = cc in absurd (omega arith)
+
+returns-4 : tie.Need-returns-4
+returns-4 c = λ h p. other-letter _ _ _ (omega arith) (omega arith) p (eqb-false _ _ (not-true _ h))
 
 pub is-other-spec : {M : Type 1} → statement M
 is-other-spec =
     tie.close
-    (tie.spec returns returns-2 (λ c. search needs) (λ c. search needs) returns-3)
+    (tie.spec returns returns-2 returns-3 (λ c. search needs) (λ c. search needs) (λ c. search needs) (λ c. search needs) returns-4)
