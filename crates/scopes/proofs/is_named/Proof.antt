@@ -1,4 +1,4 @@
--- `names::is_named` meets its contract. Assumes nothing.
+-- `scopes::is_named` meets its contract. Assumes nothing.
 use borrow.Author.Needs.{needs}
 use Rattle.names.specs.inner.Held.{held}
 use Rattle.scopes.proofs.is_named.Statement.{statement}

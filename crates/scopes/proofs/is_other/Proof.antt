@@ -1,4 +1,4 @@
--- `names::is_other` meets its contract. Assumes nothing.
+-- `scopes::is_other` meets its contract. Assumes nothing.
 use mathlib.Core.Path.{_≡_}
 use Prim.Native.Nat.{ℕ}
 use native.Mathlib.Omega.{arith}
