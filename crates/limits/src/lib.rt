@@ -1,4 +1,4 @@
-// The numbers of document 01, and since T-04 those of document 02. Each stands here and nowhere else: code and contracts read it from here.
+// The numbers of document 01, three of them as T-04 of document 02 set them. Each stands here and nowhere else: code and contracts read it from here.
 pub struct Limits {}
 
 impl Limits {
