@@ -1,7 +1,7 @@
 -- Document 01, "Bench examples": the starred ones, as they stand since document 02; T-02's own; the slips in class; and document 001's `fac0` (its listings 6.2 and 6.3 and its table 6.3).
 use mathlib.Core.Path.{_≡_}
 use mathlib.Core.List.{List, [], _∷_}
-use Prim.Native.Nat.{ℕ, _*_}
+use Prim.Native.Nat.{ℕ}
 use Prim.Native.String.{String}
 use lib.IntN.{ℤ, pos}
 use Rattle.limits.specs.Limits.{Limits}
@@ -9,7 +9,7 @@ use Rattle.base.specs.Answers.{Answer, given, refused, number}
 use Rattle.base.specs.Bytes.{bytes}
 use Rattle.instruction.specs.Instructions.{numbers}
 use Rattle.rules.specs.Machine.{Report, whole-run}
-use Rattle.compiler.specs.Compiled.{Accepted, code-of-text, need-of, Compiled, With-answer}
+use Rattle.compiler.specs.Compiled.{Accepted, code-of-text, need-of, Judged, With-answer}
 use Rattle.kit.specs.Kit.{worked-out}
 
 -- what a text comes to: a refusal and its place; or the code's numbers, the cells, the stack need, and what its run reports
@@ -36,13 +36,9 @@ by-machine e a = whole-run (record { text = e .text; table = numbers (code-of-te
 unfoldable pub by-sentences : Example → Accepted → Report
 by-sentences e a = worked-out (e .readings) 4096 (e .budget) a
 
--- a code table that holds any text's code: two numbers for each instruction
-abbrev pub whole-table : Limits → ℕ
-whole-table limits = limits .instructions * 2
-
--- the definitions yield the row by both, with such a code table
+-- the definitions yield the row by both, of the answer to its text
 abbrev pub Yields : Limits → Example → Type 0
-Yields limits e = With-answer (Compiled limits (e .text) (whole-table limits)) (λ a. (yield (by-machine e) a ≡ e .comes-to) × (yield (by-sentences e) a ≡ e .comes-to))
+Yields limits e = With-answer (Judged limits (e .text)) (λ a. (yield (by-machine e) a ≡ e .comes-to) × (yield (by-sentences e) a ≡ e .comes-to))
 
 unfoldable pub Each-yields : Limits → List Example → Type 0
 Each-yields limits [] = Unit {0}

@@ -37,7 +37,7 @@ returns c =
     Machine.string Machine.closed Machine.reading Machine.one-used Machine.printed Machine.peek Machine.poke Machine.pushed Machine.left-with Machine.jumped Machine.resulting Machine.taken Machine.written Machine.pairs Machine.names-well Machine.prints Machine.does Machine.tried Machine.decoded Machine.fetched Machine.step Machine.run Machine.report Machine.whole-run Machine.stack-after Machine.room-after
     Meaning.after Meaning._>>=_ Meaning._>>_ Meaning.give Meaning.end-with Meaning.unit Meaning.result Meaning.value-of Meaning.assigned Meaning.signed-value Meaning.rounds Meaning.next-reading Meaning.write Meaning.mean Meaning.declarations Meaning.program Meaning.meaning
     Layout.code Layout.program-code Layout.need Layout.program-need
-    Compiled.code-of-text Compiled.need-of Compiled.over-cells Measured.at-most Measured.measured Judging.short-enough Judging.judged Judging.compiled Kit.worked-out
+    Compiled.code-of-text Compiled.need-of Compiled.over-cells Measured.at-most Measured.measured Judging.short-enough Judging.judged Kit.worked-out
     Examples.yield Examples.by-machine Examples.by-sentences Rows.machine-row Rows.sentences-row
     in rows _ _ refl refl
 
