@@ -1,13 +1,13 @@
 -- Laws of runs. Assumes nothing.
 use mathlib.Core.Path.{_≡_, refl, ap, _∙_}
-use mathlib.Core.List.{List, [], _∷_}
-use mathlib.Core.Bool.{Bool, true, false, _&&_, _||_, or-comm}
+use mathlib.Core.List.{List, [], _∷_, _++_}
+use mathlib.Core.Bool.{Bool, true, false, not, _&&_, _||_, or-comm}
 use Prim.Native.Nat.{ℕ, suc, _+_, _-_, _≤_, _<_}
 use native.Mathlib.Nat.{le-refl}
 use native.Mathlib.Numerals.{add-one}
 use native.Mathlib.Omega.{arith}
 use lib.Dec.{leb, ltb}
-use borrow.Author.Tests.{le-leb, lt-leb, leb-true, ltb-true, ltb-false}
+use borrow.Author.Tests.{not-true, le-leb, lt-leb, leb-true, ltb-true, ltb-false}
 use lib.ListN.{length, getD, take, drop, drop-of-length-le, length-drop}
 use lib.Seq.{drop-cons}
 use Rattle.base.specs.Bytes.{between, letter, small, capital, digit, letter-or-digit, run, begins, all}
@@ -140,6 +140,47 @@ module _ (such other both : ℕ → Bool) (is : (b : ℕ) → both b ≡ (such b
   unfolding begins
   run-begun apart [] h = absurd (let z : _≡_ {A = ℕ} 0 1 = cc in omega arith)
   run-begun apart (b ∷ s) h = rw (run-yes both b s (is b ∙ ap (λ (t : Bool). t || other b) h)) (unfold all in rw (all, apart b h))
+
+-- ---- bytes that are all such
+
+pub all-cons : (such : ℕ → Bool) (b : ℕ) (w : List ℕ) → such b ≡ true → all such w ≡ true → all such (b ∷ w) ≡ true
+unfolding all
+all-cons such b w h k = rw (h, all) k
+
+pub all-first : (such : ℕ → Bool) (b : ℕ) (w : List ℕ) → all such (b ∷ w) ≡ true → such b ≡ true
+unfolding all
+all-first such b w h = by (such b) h
+  where
+    by : (t : Bool) → (elim t [ true ↦ all such w | false ↦ false ]) ≡ true → t ≡ true
+    by true h = refl
+    by false h = h
+
+pub all-rest : (such : ℕ → Bool) (b : ℕ) (w : List ℕ) → all such (b ∷ w) ≡ true → all such w ≡ true
+unfolding all
+all-rest such b w h = rw (all-first such b w h, all) at h
+
+pub all-append : (such : ℕ → Bool) (v w : List ℕ) → all such v ≡ true → all such w ≡ true → all such (v ++ w) ≡ true
+all-append such [] w h k = k
+all-append such (b ∷ v) w h k = all-cons such b (v ++ w) (all-first such b v h) (all-append such v w (all-rest such b v h) k)
+
+pub begins-append : (such : ℕ → Bool) (v w : List ℕ) → begins such v ≡ true → begins such (v ++ w) ≡ true
+unfolding begins
+begins-append such [] w h = let z : _≡_ {A = ℕ} 0 1 = cc in absurd (omega arith)
+begins-append such (b ∷ v) w h = h
+
+pub run-stops : (such : ℕ → Bool) (w tail : List ℕ) → all such w ≡ true → begins such tail ≡ false → run such (w ++ tail) ≡ w
+run-stops such [] tail h t = run-none such tail t
+run-stops such (b ∷ w) tail h t = run-yes such b (w ++ tail) (all-first such b w h) ∙ ap (λ (v : List ℕ). b ∷ v) (run-stops such w tail (all-rest such b w h) t)
+
+pub all-as : (such other : ℕ → Bool) → ((b : ℕ) → such b ≡ true → other b ≡ true) → (w : List ℕ) → all such w ≡ true → all other w ≡ true
+all-as such other is [] h = unfold all in refl
+all-as such other is (b ∷ w) h = all-cons other b w (is b (all-first such b w h)) (all-as such other is w (all-rest such b w h))
+
+-- not all of the bytes are what the first is not
+pub all-not : (such : ℕ → Bool) (w : List ℕ) → begins (λ b. not (such b)) w ≡ true → all such w ≡ false
+unfolding begins all
+all-not such [] h = let z : _≡_ {A = ℕ} 0 1 = cc in absurd (omega arith)
+all-not such (b ∷ w) h = rw (not-true (such b) h, all)
 
 -- ---- letters and digits
 
