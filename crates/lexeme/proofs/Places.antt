@@ -6,15 +6,17 @@ use Prim.Native.Nat.{ℕ, suc, _+_, _-_, _≤_, _<_, min}
 use native.Mathlib.Nat.{add-zero, le-refl, min-eq-left, min-le-right}
 use native.Mathlib.Numerals.{add-one}
 use native.Mathlib.Omega.{arith}
-use borrow.Author.Tests.{leb-false, ltb-true, ltb-false, eqb-false, lt-ltb, le-ltb}
+use borrow.Author.Tests.{leb-false, ltb-true, ltb-false, eqb-true, eqb-false, lt-ltb, le-ltb}
 use lib.Dec.{eqb, leb, ltb}
 use lib.ListN.{length, getD, drop, drop-of-length-le, length-drop}
 use lib.Seq.{drop-cons, length-take-le}
 use Rattle.base.specs.declared.Refusal.{Refusal}
+use Rattle.base.specs.declared.Refusal.the-variants.{NoLexeme}
 use Rattle.base.specs.Answers.{Answer, given, refused}
 use Rattle.base.specs.Bytes.{separator, small, letter, digit, letter-or-digit, no-quote, run, begins, all, same, value}
 use Rattle.base.specs.inner.Parts.{part}
 use Rattle.base.proofs.Runs.{run-part, run-yes, run-fits, run-within}
+use Rattle.base.proofs.Words.{same-equal}
 use Rattle.lexeme.specs.Lexemes.{Name, Quoted, Lexeme, lit, name, class, string, fixed, Placed, Next, lexeme, nothing, found, Keyword, keywords, capital-word, Sizes, word, string-at, Symbol, symbols, symbol, colon, here, next, too-large}
 use Rattle.lexeme.specs.Lexemes as lexemes
 use Rattle.lexeme.specs.inner.Coded.{kind-of, coded, code-of, what-of, told, placed, Ends, Stands, large}
@@ -44,9 +46,73 @@ module _ (text : List ℕ) (p : ℕ) where
     unfolding here
     here-word t = rw (drop-cons text p 0 h, t)
 
+    -- a word has a byte
+    pub word-some : letter-or-digit (getD text p 0) ≡ true → 0 < length (run letter-or-digit (drop p text))
+    word-some t = rw (drop-cons text p 0 h, run-yes letter-or-digit (getD text p 0) (drop (suc p) text) t) (omega arith)
+
     pub here-other : letter-or-digit (getD text p 0) ≡ false → here p (drop p text) ≡ other (getD text p 0)
     unfolding here
     here-other t = rw (drop-cons text p 0 h, t, add-one)
+
+-- ---- what holds of it, by cases
+
+pub by-test : {A : Type 0} (P : A → Type 0) (t : Bool) {x y : A} → (t ≡ true → P x) → (t ≡ false → P y) → P (cond t x y)
+by-test P true f g = f refl
+by-test P false f g = g refl
+
+-- of what begins at the place p
+pub here-cases : (text : List ℕ) (p : ℕ) (P : Answer Next → Type 0)
+    → (length text ≤ p → P (given (nothing p)))
+    → (p < length text → letter-or-digit (getD text p 0) ≡ true → P (word p (run letter-or-digit (drop p text))))
+    → (p < length text → getD text p 0 ≡ 34 → P (string-at p (drop (p + 1) text)))
+    → (p < length text → getD text p 0 ≡ 58 → P (colon p (drop (p + 1) text)))
+    → (p < length text → P (symbol symbols p (getD text p 0)))
+    → P (here p (drop p text))
+here-cases text p P none a-word quote a-colon byte = by (ltb p (length text)) (letter-or-digit (getD text p 0)) refl refl
+  where
+    b : ℕ
+    b = getD text p 0
+
+    by : (t u : Bool) → ltb p (length text) ≡ t → letter-or-digit b ≡ u → P (here p (drop p text))
+    by false u out l = let h : length text ≤ p = ltb-false p (length text) out in subst P (here-end text p h) (none h)
+    by true true within l = let h : p < length text = ltb-true p (length text) within in rw (here-word text p h l) (a-word h l)
+    by true false within l =
+        let h : p < length text = ltb-true p (length text) within in
+        rw (here-other text p h l)
+        (by-test P (eqb b 34) (λ t. quote h (eqb-true b 34 t))
+        (λ _. by-test P (eqb b 58) (λ t. a-colon h (eqb-true b 58 t))
+        (λ _. byte h)))
+
+-- of a capital word: a keyword, or a class name, which is one at any place
+pub capital-cases : (w : List ℕ) (p : ℕ) (P : Lexeme → Type 0) {Q : Keyword → Type 0}
+    → ((k : Keyword) → Q k → w ≡ k .spelled → P (fixed (k .means)))
+    → {ks : List Keyword} → Each Q ks
+    → (capital-word ks 0 w ≡ class (record { spelled = w; place = 0 }) → P (class (record { spelled = w; place = p })))
+    → P (capital-word ks p w)
+unfolding capital-word
+capital-cases w p P one nil none = none refl
+capital-cases w p P one (_also_ {a = k} {rest = ks} q qs) none = by (capital-cases w p P one qs) (same w (k .spelled)) refl
+  where
+    after : ℕ → Bool → Lexeme
+    after at t = elim t [ true ↦ fixed (k .means) | false ↦ capital-word ks at w ]
+
+    by : ((capital-word ks 0 w ≡ class (record { spelled = w; place = 0 }) → P (class (record { spelled = w; place = p }))) → P (capital-word ks p w)) → (t : Bool) → same w (k .spelled) ≡ t → P (after p t)
+    by more true e = one k q (same-equal w (k .spelled) e)
+    by more false e = more (λ c. none (ap (after 0) e ∙ c))
+
+-- of a byte that may be a symbol
+pub symbol-cases : (p b : ℕ) (P : Answer Next → Type 0) {Q : Symbol → Type 0}
+    → P (refused NoLexeme p)
+    → ((y : Symbol) → Q y → b ≡ y .byte → P (found p (fixed (y .means)) (p + 1)))
+    → {ys : List Symbol} → Each Q ys
+    → P (symbol ys p b)
+unfolding symbol
+symbol-cases p b P none one nil = none
+symbol-cases p b P none one (_also_ {a = y} {rest = ys} q qs) = by (symbol-cases p b P none one qs) (eqb b (y .byte)) refl
+  where
+    by : P (symbol ys p b) → (t : Bool) → eqb b (y .byte) ≡ t → P (elim t [ true ↦ found p (fixed (y .means)) (p + 1) | false ↦ symbol ys p b ])
+    by later true e = one y q (eqb-true b (y .byte) e)
+    by later false e = later
 
 -- ---- what it is
 
@@ -75,44 +141,30 @@ Good text p (given (lexeme l e)) = (l .place ≡ p) × Fits text l e
 Good text p (given (nothing q)) = (q ≡ p) × (length text ≤ p)
 Good text p (refused why q) = Unit {0}
 
-by-test : {A : Type 0} (P : A → Type 0) (t : Bool) {x y : A} → (t ≡ true → P x) → (t ≡ false → P y) → P (cond t x y)
-by-test P true f g = f refl
-by-test P false f g = g refl
+-- neither a keyword nor a symbol is the end
+keywords-written : Each (λ (k : Keyword). eqb (code-of (k .means)) (code-of lexemes.end) ≡ false) keywords
+unfolding keywords code-of
+keywords-written = refl also refl also refl also refl also refl also refl also refl also refl also refl also refl also refl also refl also refl also refl also refl also refl also refl also refl also refl also refl also refl also nil
+
+symbols-written : Each (λ (y : Symbol). eqb (code-of (y .means)) (code-of lexemes.end) ≡ false) symbols
+unfolding symbols code-of
+symbols-written = refl also refl also refl also refl also refl also refl also refl also refl also refl also refl also refl also refl also refl also refl also refl also nil
 
 module _ (text : List ℕ) (p : ℕ) where
   module _ (w : List ℕ) (is : part text p (p + length w) ≡ w) where
     named : Written text p (p + length w) (name (record { spelled = w; place = p }))
     named = ap (λ (x : List ℕ). record { spelled = x; place = p }) (sym is)
 
-    capital-written : {ks : List Keyword} → Each (λ (k : Keyword). eqb (code-of (k .means)) 0 ≡ false) ks → Written text p (p + length w) (capital-word ks p w)
-    unfolding capital-word code-of
-    capital-written nil = named
-    capital-written (_also_ {a = k} {rest = ks} h hs) = by-spelling (capital-written hs) (same w (k .spelled))
-      where
-        by-spelling : Written text p (p + length w) (capital-word ks p w) → (t : Bool) → Written text p (p + length w) (elim t [ true ↦ fixed (k .means) | false ↦ capital-word ks p w ])
-        by-spelling later true = h
-        by-spelling later false = later
-
     word-good : 0 < length w → p + length w ≤ length text → Good text p (word p w)
-    unfolding word found keywords code-of
+    unfolding word found
     word-good some within =
         by-test (Good text p) (begins small w) (λ _. stands (name (record { spelled = w; place = p })) named)
         (λ _. by-test (Good text p) (all letter w)
-        (λ _. stands (capital-word keywords p w)
-        (capital-written (refl also refl also refl also refl also refl also refl also refl also refl also refl also refl also refl also refl also refl also refl also refl also refl also refl also refl also refl also refl also refl also nil)))
+        (λ _. stands (capital-word keywords p w) (capital-cases w p (Written text p (p + length w)) (λ k h _. h) keywords-written (λ _. named)))
         (λ _. by-test (Good text p) (all digit w) (λ _. stands (lit (value 0 w)) tt) (λ _. tt)))
       where
         stands : (l : Lexeme) → Written text p (p + length w) l → Good text p (found p l (p + length w))
         stands l h = (refl, record { some = omega arith; within = within; written = h })
-
-  symbol-good : (b : ℕ) → p < length text → {ys : List Symbol} → Each (λ (y : Symbol). eqb (code-of (y .means)) 0 ≡ false) ys → Good text p (symbol ys p b)
-  unfolding symbol found code-of
-  symbol-good b within nil = tt
-  symbol-good b within (_also_ {a = y} {rest = ys} h hs) = by-byte (symbol-good b within hs) (eqb b (y .byte))
-    where
-      by-byte : Good text p (symbol ys p b) → (t : Bool) → Good text p (elim t [ true ↦ found p (fixed (y .means)) (p + 1) | false ↦ symbol ys p b ])
-      by-byte later true = (refl, record { some = omega arith; within = omega arith; written = h })
-      by-byte later false = later
 
   colon-good : (s : List ℕ) → p + 1 + length s ≡ length text → Good text p (colon p s)
   unfolding colon found code-of
@@ -134,26 +186,16 @@ module _ (text : List ℕ) (p : ℕ) where
         },
       ))
 
-  -- the case analysis of `here`
   pub here-good : Good text p (here p (drop p text))
-  unfolding part symbols code-of
-  here-good = by-tests (ltb p (length text)) (letter-or-digit (getD text p 0)) refl refl
-    where
-      by-tests : (t u : Bool) → ltb p (length text) ≡ t → letter-or-digit (getD text p 0) ≡ u → Good text p (here p (drop p text))
-      by-tests false u out l = let h : length text ≤ p = ltb-false p (length text) out in subst (Good text p) (here-end text p h) (refl, h)
-      by-tests true true within l =
-          let h : p < length text = ltb-true p (length text) within in
-          let w = run letter-or-digit (drop p text) in
-          rw (here-word text p h l)
-          (word-good w (run-part letter-or-digit text p (p + length w) refl) (rw (drop-cons text p 0 h, run-yes letter-or-digit (getD text p 0) (drop (suc p) text) l) (omega arith)) (run-within letter-or-digit text p (p + length w) (omega arith) refl))
-      by-tests true false within l =
-          let h : p < length text = ltb-true p (length text) within in
-          let b = getD text p 0 in
-          rw (here-other text p h l)
-          (by-test (Good text p) (eqb b 34) (λ _. string-good h)
-          (λ _. by-test (Good text p) (eqb b 58) (λ _. colon-good (drop (p + 1) text) (omega (arith, length-drop (p + 1) text)))
-          (λ _. symbol-good b h
-          (refl also refl also refl also refl also refl also refl also refl also refl also refl also refl also refl also refl also refl also refl also refl also nil))))
+  unfolding part found
+  here-good =
+      here-cases text p (Good text p) (λ h. (refl, h))
+      (λ h l.
+      let w = run letter-or-digit (drop p text) in
+      word-good w (run-part letter-or-digit text p (p + length w) refl) (word-some text p h l) (run-within letter-or-digit text p (p + length w) (omega arith) refl))
+      (λ h _. string-good h)
+      (λ h _. colon-good (drop (p + 1) text) (omega (arith, length-drop (p + 1) text)))
+      (λ h. symbol-cases p (getD text p 0) (Good text p) tt (λ y i _. (refl, record { some = omega arith; within = omega arith; written = i })) symbols-written)
 
 -- ---- a lexeme that stands in the text, and the code's
 
