@@ -1,7 +1,8 @@
 // Printing into a room that is lent: all of it, or nothing where it does not fit.
 ghost use mathlib.Core.Path.{_≡_};
-ghost use Prim.Native.Nat.{_+_, _≤_};
-ghost use lib.ListN.{length};
+ghost use mathlib.Core.List.{_++_};
+ghost use Prim.Native.Nat.{_+_, _-_, _≤_};
+ghost use lib.ListN.{length, take, replicate};
 ghost use lib.Seq.{paste};
 ghost use Rattle.rooms.specs.inner.Rooms.{said, Prints};
 
@@ -45,4 +46,15 @@ pub fn print(room: &mut [u8], at: usize, bytes: &[u8], line: bool) -> Printed
     }
     copy(room, at, bytes);
     Printed::UpTo(end)
+}
+
+// Zeros from a place on.
+pub fn clear_from(room: &mut [u8], at: usize)
+    ensures { λ _. ⌜ now (room .exit) ≡ take at (now (room .entry)) ++ replicate (length (now (room .entry)) - at) 0 ⌝ }
+{
+    let mut i = at;
+    while i < room.len() {
+        room[i] = 0;
+        i += 1;
+    }
 }
