@@ -24,16 +24,15 @@ use Rattle.kit.proofs.Strings.{program-strings}
 pub named : {limits : Limits} {text : List ℕ} {n : ℕ} {a : Accepted} → Compiled limits text n (given a) → Named limits text a
 named (fits (accepted x _) _) = x
 
-module _ (limits : Limits) (text : List ℕ) (n : ℕ) (a : Accepted) (compiled : Compiled limits text n (given a)) where
-  -- the cells of an accepted text's sentences are its own, and its strings stand in the text
-  pub own : Fits text (a .cells) (a .command)
-  unfolding resolved
-  own =
-      let x = named compiled in
-      let k = resolves (limits .declarations) (x .tree) (x .are) in
-      let g = resolved-well (limits .declarations) (In-text text) (x .tree) (k .1) (program-strings text (limits .sizes) (x .parsed .from) (x .tree) (x .parsed .lexed .are) (x .parsed .whole)) in
-      subst (λ (y : Accepted). Fits text (y .cells) (y .command)) (k .2) (g .each)
+-- the cells of an accepted text's sentences are its own, and its strings stand in the text
+pub own : (limits : Limits) (text : List ℕ) (a : Accepted) → Named limits text a → Fits text (a .cells) (a .command)
+unfolding resolved
+own limits text a x =
+    let k = resolves (limits .declarations) (x .tree) (x .are) in
+    let g = resolved-well (limits .declarations) (In-text text) (x .tree) (k .1) (program-strings text (limits .sizes) (x .parsed .from) (x .tree) (x .parsed .lexed .are) (x .parsed .whole)) in
+    subst (λ (y : Accepted). Fits text (y .cells) (y .command)) (k .2) (g .each)
 
+module _ (limits : Limits) (text : List ℕ) (n : ℕ) (a : Accepted) (compiled : Compiled limits text n (given a)) where
   module _ (readings : List ℤ) (room cells budget-given : ℕ) (enough : need-of a ≤ cells) where
     abbrev run-of : Report
     run-of = whole-run (record { text = text; table = numbers (code-of-text a); readings = readings; cells = cells; room = room }) budget-given
@@ -41,7 +40,7 @@ module _ (limits : Limits) (text : List ℕ) (n : ℕ) (a : Accepted) (compiled 
     -- ending, output, readings used and steps are those worked out from the sentences alone
     pub faithful : run-of ≡ worked-out readings room budget-given a
     unfolding code-of-text need-of worked-out
-    faithful = whole text readings room cells (a .cells) (a .command) budget-given own enough
+    faithful = whole text readings room cells (a .cells) (a .command) budget-given (own limits text a (named compiled)) enough
 
     pub never-bad-code : run-of .ending ≢ bad-code
     unfolding worked-out report
