@@ -2,7 +2,7 @@
 use mathlib.Core.Path.{_≡_, refl, sym, ap, subst, _∙_}
 use mathlib.Core.List.{List, [], _∷_, _++_}
 use mathlib.Core.Bool.{Bool, true, false, cond}
-use Prim.Native.Nat.{ℕ, _+_, _/_, _≤_, _<_}
+use Prim.Native.Nat.{ℕ, _+_, _*_, _/_, _≤_, _<_}
 use native.Mathlib.Nat.{sub-zero, zero-add}
 use native.Mathlib.Omega.{arith}
 use borrow.Author.Tests.{ltb-true, ltb-false}
@@ -24,8 +24,8 @@ use Rattle.sentence.specs.Sentences.{Sen, command}
 use Rattle.sentence.proofs.Reader.{read}
 use Rattle.sentence.proofs.Refusals.{accepts}
 use Rattle.names.specs.Names.{Scope, Known, nothing-declared, resolved}
-use Rattle.names.specs.inner.Held.{counts, room, scope-in}
-use Rattle.names.proofs.Held.{nothing-scope}
+use Rattle.names.specs.inner.Held.{counts, no-counts, with-counts, room, scope-in}
+use Rattle.names.proofs.Held.{nothing-scope, with-long, with-is}
 use Rattle.instruction.specs.Instructions.{halt, push-int, encode}
 use Rattle.meaning.specs.Layout.{need, code, program-code, program-need}
 use Rattle.meaning.proofs.Sizes.{size}
@@ -53,6 +53,26 @@ use Rattle.compiler.proofs.Emits.{emit-code}
 use Rattle.tables.proofs.Filled.{filled-by-code}
 use Rattle.compiler.proofs.Lays.{never}
 use Rattle.compiler.proofs.Judging.{measured-so}
+
+-- ---- the list, where nothing is declared yet
+
+module _ (names : List ℕ) {names′ : List ℕ} (begins : names′ ≡ with-counts names no-counts) where
+  as-long : length names′ ≡ length names
+  as-long = rw begins (with-long names no-counts)
+
+  pub set-out : {text : List ℕ} {place : ℕ} → length text ≤ 1000000 → place ≤ 1000000 → 5 ≤ length names → length names ≤ 1000000 → Set-out text names′ place
+  set-out short low head size = record { short = short; code = low; head = omega (arith, as-long); size = omega (arith, as-long); none = rw begins (with-is names no-counts head) }
+
+  -- what it has room for is the limit
+  module _ (limit : ℕ) (long : length names ≡ 5 + limit * 4) where
+    room-is : room names′ ≡ limit
+    room-is = omega (arith, as-long)
+
+    pub measured-within : (nesting instructions : ℕ) (text : List ℕ) (a : Answer) → Measured nesting (room names′) instructions text a → Measured nesting limit instructions text a
+    measured-within nesting instructions text a m = rw room-is at m
+
+    pub written-within : (nesting : ℕ) (text : List ℕ) (cells : ℕ) (table table′ : List ℤ) → Written nesting (room names′) text cells table table′ → Written nesting limit text cells table table′
+    written-within nesting text cells table table′ w = rw room-is at w
 
 -- ---- the Program
 

@@ -48,25 +48,25 @@ fn program(text: &[u8], names: &mut [usize], table: &mut [i32], code: usize) -> 
 const NAMES: usize = names::COUNTS + Limits::DECLARATIONS * names::ENTRY;
 
 // What the sentences decide. Nothing is written: the table holds no pair.
-fn measured(text: &[u8]) -> Answer
+fn measured(text: &[u8], names: &mut [usize; NAMES]) -> Answer
     requires { do ⌜ length (now text) ≤ (← ⟦Limits::TEXT⟧) ⌝ }
     ensures { λ r. do ⌜ Measured (← ⟦Limits::NESTING⟧ .entry) (← ⟦Limits::DECLARATIONS⟧ .entry) (← ⟦Limits::INSTRUCTIONS⟧ .entry) (now (text .entry)) r ⌝ }
 {
-    let mut names = [0usize; NAMES];
+    scopes::start(names);
     let mut none = [0i32; 1];
-    let r = program(text, &mut names, &mut none, 0);
+    let r = program(text, names, &mut none, 0);
     match r {
         Read::Refused(why, place) => Answer::Refused(why, place),
         Read::Done(w, g) => {
-            let s = scopes::counts(&names);
+            let s = scopes::counts(names);
             let fault = w.fault;
             tables::settled(s.cells, w.code, s.cells + g.need, fault)
         }
     }
 }
 
-// A text's answer, whatever table there is. The ghost value is the limits of a lexeme: with them and the four others one clause names all seven.
-pub fn judge(text: &[u8]) -> Answer
+// A text's answer, whatever table there is, over a lent list. The ghost value is the limits of a lexeme: with them and the four others one clause names all seven.
+fn judged(text: &[u8], names: &mut [usize; NAMES]) -> Answer
     ghost { Sizes }
     requires { λ sizes. do ⌜ record { word = (← ⟦Limits::WORD⟧); string = (← ⟦Limits::STRING⟧); literal = (← ⟦Limits::LITERAL⟧) } ≡ sizes ⌝ }
     ensures { λ sizes r. do ⌜ With-answer (Judged (record { text = (← ⟦Limits::TEXT⟧ .entry); sizes = sizes; nesting = (← ⟦Limits::NESTING⟧ .entry); declarations = (← ⟦Limits::DECLARATIONS⟧ .entry); instructions = (← ⟦Limits::INSTRUCTIONS⟧ .entry) }) (now (text .entry))) (λ a. r ≡ answered a) ⌝ }
@@ -77,38 +77,49 @@ pub fn judge(text: &[u8]) -> Answer
     let found = scan::scan(text);
     match found {
         Found::Refused(why, place) => Answer::Refused(why, place),
-        Found::Is(_) => measured(text),
+        Found::Is(_) => measured(text, names),
     }
 }
 
+// That, with a list of its own.
+pub fn judge(text: &[u8]) -> Answer
+    ghost { Sizes }
+    requires { λ sizes. do ⌜ record { word = (← ⟦Limits::WORD⟧); string = (← ⟦Limits::STRING⟧); literal = (← ⟦Limits::LITERAL⟧) } ≡ sizes ⌝ }
+    ensures { λ sizes r. do ⌜ With-answer (Judged (record { text = (← ⟦Limits::TEXT⟧ .entry); sizes = sizes; nesting = (← ⟦Limits::NESTING⟧ .entry); declarations = (← ⟦Limits::DECLARATIONS⟧ .entry); instructions = (← ⟦Limits::INSTRUCTIONS⟧ .entry) }) (now (text .entry))) (λ a. r ≡ answered a) ⌝ }
+{
+    let mut names = [0usize; NAMES];
+    judged(text, &mut names)
+}
+
 // The code of a text that has so many cells.
-fn write(text: &[u8], table: &mut [i32], cells: usize)
+fn write(text: &[u8], names: &mut [usize; NAMES], table: &mut [i32], cells: usize)
     requires { do ⌜ (length (now text) ≤ (← ⟦Limits::TEXT⟧)) × (cells ≤ (← ⟦Limits::INSTRUCTIONS⟧)) ⌝ }
     ensures { λ _. do ⌜ Written (← ⟦Limits::NESTING⟧ .entry) (← ⟦Limits::DECLARATIONS⟧ .entry) (now (text .entry)) cells (now (table .entry)) (now (table .exit)) ⌝ }
 {
-    let mut names = [0usize; NAMES];
+    scopes::start(names);
     tables::put_cells(table, cells);
-    let r = program(text, &mut names, table, cells);
+    let r = program(text, names, table, cells);
     let Read::Done(w, _) = r else {
         return;
     };
     tables::put_halt(table, w.code);
 }
 
-// Judged; then the table's room; then written.
+// Judged; then the table's room; then written. One list serves both passes: a second would be 8 KB more of native stack.
 pub fn compile(text: &[u8], table: &mut [i32]) -> Answer
     ghost { Sizes }
     requires { λ sizes. do ⌜ record { word = (← ⟦Limits::WORD⟧); string = (← ⟦Limits::STRING⟧); literal = (← ⟦Limits::LITERAL⟧) } ≡ sizes ⌝ }
     ensures { λ sizes r. do ⌜ With-answer (Compiled (record { text = (← ⟦Limits::TEXT⟧ .entry); sizes = sizes; nesting = (← ⟦Limits::NESTING⟧ .entry); declarations = (← ⟦Limits::DECLARATIONS⟧ .entry); instructions = (← ⟦Limits::INSTRUCTIONS⟧ .entry) }) (now (text .entry)) (length (now (table .entry)))) (Compiles (length (now (table .entry))) r (now (table .exit))) ⌝ }
 {
     base::clear(table);
-    let a = judge(text);
+    let mut names = [0usize; NAMES];
+    let a = judged(text, &mut names);
     let Answer::Accepted(counts) = a else {
         return a;
     };
     if table.len() / 2 < counts.instructions {
         return Answer::Refused(Refusal::TooMuchCode, 0);
     }
-    write(text, table, counts.cells);
+    write(text, &mut names, table, counts.cells);
     a
 }

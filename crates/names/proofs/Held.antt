@@ -138,7 +138,7 @@ module _ (names : List ℕ) (s : Scope) where
   abbrev numbers : List ℕ
   numbers = s .visible ∷ s .declared ∷ s .«next_cell» ∷ s .cells ∷ s .blocks ∷ []
 
-  with-long : length (with-counts names s) ≡ length names
+  pub with-long : length (with-counts names s) ≡ length names
   unfolding with-counts
   with-long = length-sets names 0 numbers
 
@@ -146,7 +146,7 @@ module _ (names : List ℕ) (s : Scope) where
   unfolding with-counts
   with-entries i h = after-sets numbers names 0 i h
 
-  with-is : 5 ≤ length names → counts (with-counts names s) ≡ s
+  pub with-is : 5 ≤ length names → counts (with-counts names s) ≡ s
   unfolding with-counts
   with-is h = rw (at 0 (omega arith), at 1 (omega arith), at 2 (omega arith), at 3 (omega arith), at 4 (omega arith)) refl
     where

@@ -8,7 +8,7 @@ ghost use lib.ListN.{getD, set};
 ghost use lib.Seq.{sets};
 ghost use Rattle.base.specs.Bytes.{same};
 ghost use Rattle.base.specs.inner.Parts.{part};
-ghost use Rattle.names.specs.inner.Held.{counts, room, with-counts, one-up, held, visible-in, latest, declared-scope, entered, declared-in, opened-in, closed-in};
+ghost use Rattle.names.specs.inner.Held.{counts, room, with-counts, no-counts, one-up, held, visible-in, latest, declared-scope, entered, declared-in, opened-in, closed-in};
 use names::COUNTS;
 use names::Cell;
 use names::ENTRY;
@@ -55,6 +55,20 @@ fn put_counts(names: &mut [usize], s: Scope)
     put(names, 2, s.next_cell);
     put(names, 3, s.cells);
     put(names, 4, s.blocks);
+}
+
+// Before a text: nothing is declared, and no block is open.
+pub fn start(names: &mut [usize])
+    ensures { λ _. ⌜ now (names .exit) ≡ with-counts (now (names .entry)) no-counts ⌝ }
+{
+    let s = Scope {
+        visible: 0,
+        declared: 0,
+        next_cell: 0,
+        cells: 0,
+        blocks: 0,
+    };
+    put_counts(names, s);
 }
 
 // One more, as far as numbers go.

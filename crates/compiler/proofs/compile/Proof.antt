@@ -6,16 +6,16 @@ use Rattle.compiler.proofs.compile.Statement.{statement}
 use Rattle.compiler.proofs.compile.Tie as tie
 
 returns : tie.Need-returns
-returns c = by-judging _ _ _ _ (c .before .before .before .before .clear .ensures) (c .before .before .judge .ensures) (c .enum-told .given .1)
+returns c = by-judging _ _ _ _ (c .before .before .before .before .before .clear .ensures) (c .before .before .judged .ensures) (c .enum-told .given .1)
 
 returns-2 : tie.Need-returns-2
-returns-2 c = by-room _ _ _ _ (c .before .before .before .before .before .before .before .clear .ensures) (c .before .before .before .before .before .judge .ensures) (c .before .before .before .a .given .1) (omega arith)
+returns-2 c = by-room _ _ _ _ (c .before .before .before .before .before .before .before .before .clear .ensures) (c .before .before .before .before .before .judged .ensures) (c .before .before .before .a .given .1) (omega arith)
 
 write-requires : tie.Need-write-requires
-write-requires c κs = may-write _ _ (c .before .before .before .before .before .before .judge .ensures) (c .before .before .before .before .a .given .1)
+write-requires c κs = may-write _ _ (c .before .before .before .before .before .before .before .judged .ensures) (c .before .before .before .before .before .a .given .1)
 
 returns-3 : tie.Need-returns-3
-returns-3 c = by-none _ _ _ _ (c .before .before .before .before .before .before .before .before .before .before .clear .ensures) (c .before .before .before .before .before .before .before .before .judge .ensures) (c .before .before .before .before .before .before .a .given .1) (omega arith) (omega arith) _ (c .before .write .ensures)
+returns-3 c = by-none _ _ _ _ (c .before .before .before .before .before .before .before .before .before .before .before .before .clear .ensures) (c .before .before .before .before .before .before .before .before .before .judged .ensures) (c .before .before .before .before .before .before .before .a .given .1) (omega arith) (omega arith) _ (c .before .write .ensures)
 
 pub compile-spec : {M : Type 1} → statement M
 compile-spec =
