@@ -15,7 +15,7 @@ use Rattle.base.specs.declared.Refusal.{Refusal}
 use Rattle.base.specs.declared.Refusal.the-variants.{TooLong, NoLexeme, TooLarge, NoProgram, TooDeep, Undeclared, TooManyDeclared, TooMuchCode}
 use Rattle.base.specs.Answers.{number}
 use Rattle.lines.specs.Forms.{filled}
-use Rattle.lines.specs.Lines.{refused-line, ending-line, accepted-line}
+use Rattle.lines.specs.Lines.{refusal-line, refused-line, ending-line, accepted-line}
 
 -- below 2 ^ 64
 abbrev pub Small : ℕ → Type 0
@@ -60,9 +60,13 @@ small-number Undeclared = omega arith
 small-number TooManyDeclared = omega arith
 small-number TooMuchCode = omega arith
 
+pub short-refusal : (n p : ℕ) → Small n → Small p → length (refusal-line n p) ≤ 96
+unfolding refusal-line bytes bytes-from
+short-refusal n p h i = omega (arith, short-filled (bytes "refused # #\n") (n ∷ p ∷ []) (h, (i, tt)))
+
 pub short-refused : (why : Refusal) (p : ℕ) → Small p → length (refused-line why p) ≤ 96
-unfolding refused-line bytes bytes-from
-short-refused why p i = omega (arith, short-filled (bytes "refused # #\n") (number why ∷ p ∷ []) (omega (arith, small-number why), (i, tt)))
+unfolding refused-line
+short-refused why p i = short-refusal (number why) p (omega (arith, small-number why)) i
 
 pub short-ending : (e s : ℕ) → Small e → Small s → length (ending-line e s) ≤ 95
 unfolding ending-line bytes bytes-from

@@ -9,9 +9,12 @@ use Rattle.lines.specs.Forms.{filled}
 abbrev pub line-end : List ℕ
 line-end = 10 ∷ []
 
--- `refused N P`
+-- `refused N P`, by its number: a tidy copy has a refusal of its own
+unfoldable pub refusal-line : ℕ → ℕ → List ℕ
+refusal-line number place = filled (bytes "refused # #\n") (number ∷ place ∷ [])
+
 unfoldable pub refused-line : Refusal → ℕ → List ℕ
-refused-line why place = filled (bytes "refused # #\n") (number why ∷ place ∷ [])
+refused-line why place = refusal-line (number why) place
 
 -- `ending E steps S`
 unfoldable pub ending-line : ℕ → ℕ → List ℕ

@@ -8,7 +8,7 @@ ghost use lib.ListN.{getD};
 ghost use Rattle.numbers.specs.Numbers.{decimal};
 ghost use Rattle.lines.specs.Added.{Added};
 ghost use Rattle.lines.specs.Forms.{filled};
-ghost use Rattle.lines.specs.Lines.{refused-line, ending-line, accepted-line};
+ghost use Rattle.lines.specs.Lines.{refusal-line, refused-line, ending-line, accepted-line};
 use base::Refusal;
 use base::smaller;
 use numbers::decimal::put_decimal;
@@ -80,11 +80,17 @@ pub fn fill(page: &mut [u8], at: usize, form: &[u8], numbers: [u64; 3]) -> usize
 }
 
 // `refused N P`
+pub fn refusal(page: &mut [u8], at: usize, number: u8, place: usize) -> usize
+    ensures { λ r. ⌜ Added (refusal-line number place) (now (page .entry)) at (now (page .exit)) r ⌝ }
+{
+    fill(page, at, b"refused # #\n", [number as u64, place as u64, 0])
+}
+
+// The line of a refused text.
 pub fn refused(page: &mut [u8], at: usize, why: Refusal, place: usize) -> usize
     ensures { λ r. ⌜ Added (refused-line why place) (now (page .entry)) at (now (page .exit)) r ⌝ }
 {
-    let number = base::number(why);
-    fill(page, at, b"refused # #\n", [number as u64, place as u64, 0])
+    refusal(page, at, base::number(why), place)
 }
 
 // `ending E steps S`

@@ -1,22 +1,12 @@
 -- `lines::refused` meets its contract. Assumes nothing.
 use borrow.Author.Needs.{needs}
-use Rattle.base.specs.Bytes.{bytes, bytes-from}
-use Rattle.lines.specs.Forms.{filled}
 use Rattle.lines.specs.Lines.{refused-line}
 use Rattle.lines.proofs.refused.Statement.{statement}
 use Rattle.lines.proofs.refused.Tie as tie
 
 returns : tie.Need-returns
-unfolding refused-line filled bytes bytes-from
-returns c = rw (← c .before .before .before .before .before .number .ensures) (c .before .before .fill .ensures)
+unfolding refused-line
+returns c = rw (← c .before .before .before .number .ensures) (c .before .before .refusal .ensures)
 
 pub refused-spec : {M : Type 1} → statement M
-refused-spec =
-    tie.close
-    (tie.spec
-    (λ c κs. search needs)
-    (λ c. search needs)
-    (λ c. search needs)
-    (λ c κs. search needs)
-    (λ c. search needs)
-    returns)
+refused-spec = tie.close (tie.spec (λ c κs. search needs) (λ c κs. search needs) (λ c. search needs) returns)
