@@ -64,6 +64,21 @@ void o_run_text(const uint8_t *text, size_t text_length,
                 uint8_t *out, size_t out_length,
                 uint64_t report[7]);
 
+/*
+ * A tidy copy of a text: its lexemes with one space between, literals without needless zeros, strings byte for byte.
+ *
+ * Each array passes as a pointer and its number of elements. A pointer is not null, also where the number is 0, and is
+ * valid for that many elements. `room` and `report` are written: neither may overlap anything else lent.
+ *
+ * Afterwards report[0] is 0 if there is a copy, or the number of the text's refusal, 1 to 8 (there is no table: 8 is by
+ * the limit of 8,192 instructions alone), or 15 if the tidy text is longer than the room or than 49,152 bytes;
+ * report[1] the refusal's place, 0 with 15; report[2] the copy's length, 0 on a refusal. The room is the copy and then
+ * zeros, and all zeros on a refusal: nothing of what it held shows. A room of length 0 is no special case.
+ */
+void o_tidy(const uint8_t *text, size_t text_length,
+            uint8_t *room, size_t room_length,
+            uint64_t report[3]);
+
 #ifdef __cplusplus
 }
 #endif

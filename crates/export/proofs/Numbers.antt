@@ -1,4 +1,4 @@
--- What `compile`, `run` and `run_text` promise of their answers, they promise of the answers' numbers. Assumes nothing.
+-- What `compile`, `run`, `run_text` and `tidy` promise of their answers, they promise of the answers' numbers. Assumes nothing.
 use mathlib.Core.Path.{_≡_, refl, ap, _∙_}
 use mathlib.Core.Bool.{Bool, true, false, cond, and-true}
 use mathlib.Core.List.{List, [], _++_}
@@ -10,6 +10,7 @@ use lib.IntN.{ℤ}
 use lib.ListN.{length, take, drop, length-append}
 use lib.Seq.{take-at}
 use Rattle.endings.specs.Endings.{normal}
+use Rattle.limits.specs.Limits.{Limits}
 use Rattle.base.specs.Answers as A
 use Rattle.base.specs.Answers.{given, refused}
 use Rattle.rules.specs.Machine.{Report, room-after}
@@ -20,10 +21,12 @@ use Rattle.compiler.specs.Answers.{answered, Compiles}
 use Rattle.compiler.specs.Compiled as C
 use Rattle.compiler.specs.Compiled.{With-answer, table-after}
 use Rattle.compiler.proofs.Judging.{with-answer}
+use Rattle.tidy.specs.Tidy.{Tidy, tidy-numbers}
+use Rattle.tidy.specs.declared.Tidied.{Tidied}
 use Rattle.reports.specs.Reports.{sendable, answer-numbers, run-numbers, text-numbers}
 use Rattle.reports.specs.declared.Came.{Came}
 use Rattle.kit.specs.Kit.{own-run, Comes-to, refused-so, ran, Outcome-of}
-use Rattle.export.specs.Reports.{RanInto, five, CompiledInto, may-send, seven, stack-left, room-left, Means, RanTextInto}
+use Rattle.export.specs.Reports.{RanInto, five, CompiledInto, may-send, seven, stack-left, room-left, Means, RanTextInto, TidyInto}
 
 answer-five : (a : A.Answer C.Accepted) → answer-numbers (answered a) ≡ five a
 unfolding answered answer-numbers five
@@ -55,3 +58,6 @@ module _ (text : List ℕ) (readings : List ℤ) (budget : ℕ) (stack : List �
 
   pub text-ran-into : {Given : A.Answer C.Accepted → Type 0} {c : Came} {table′ stack′ : List ℤ} {out′ report : List ℕ} → With-answer Given (Outcome-of text readings budget stack out n c table′ stack′ out′) → report ≡ text-numbers c out′ → With-answer Given (RanTextInto text readings budget stack out n report table′ stack′ out′)
   text-ran-into w e = rw e (with-answer w (λ a _ s. came-into (s .comes) (s .numbers)))
+
+pub tidied-into : {limits : Limits} {text : List ℕ} {room : ℕ} {r : Tidied} {after report : List ℕ} → Tidy limits text room r after → report ≡ tidy-numbers r → TidyInto limits text room report after
+tidied-into w e = with-answer w (λ a _ s. record { reported = e ∙ ap tidy-numbers (s .answer); holds = s .holds })

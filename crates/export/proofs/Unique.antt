@@ -1,4 +1,4 @@
--- The contracts of `o_compile`, `o_run` and `o_run_text` leave one report, and one content of table, stack and room. Assumes nothing.
+-- The contracts of `o_compile`, `o_run`, `o_run_text` and `o_tidy` leave one report, and one content of table, stack and room. Assumes nothing.
 use mathlib.Core.Path.{_≡_, sym, _∙_}
 use mathlib.Core.List.{List}
 use Prim.Native.Nat.{ℕ}
@@ -6,9 +6,9 @@ use lib.IntN.{ℤ}
 use Rattle.limits.specs.Limits.{Limits}
 use Rattle.rules.specs.Machine.{Report}
 use Rattle.compiler.specs.Compiled.{Compiled, With-answer}
-use Rattle.compiler.proofs.Judging.{one-compiled}
+use Rattle.compiler.proofs.Judging.{one-judged, one-compiled}
 use Rattle.compiler.proofs.Unique.{both}
-use Rattle.export.specs.Reports.{CompiledInto, RanInto, RanTextInto}
+use Rattle.export.specs.Reports.{CompiledInto, RanInto, RanTextInto, TidyInto}
 
 pub run-unique : {w : Report} {cells : List ℤ} {before report report′ : List ℕ} {cells′ cells″ : List ℤ} {after after′ : List ℕ} → RanInto w cells before report cells′ after → RanInto w cells before report′ cells″ after′ → (report ≡ report′) × (cells′ ≡ cells″) × (after ≡ after′)
 run-unique p q = (p .reported ∙ sym (q .reported), p .stack ∙ sym (q .stack), p .room ∙ sym (q .room))
@@ -24,3 +24,6 @@ module _ (limits : Limits) (text : List ℕ) (n : ℕ) where
     run-text-unique p q =
         let b = both (λ a c. one-compiled limits text n) p q in
         (b .1 .reported ∙ sym (b .2 .reported), b .1 .code ∙ sym (b .2 .code), b .1 .cells ∙ sym (b .2 .cells), b .1 .room ∙ sym (b .2 .room))
+
+pub tidy-unique : (limits : Limits) (text : List ℕ) (room : ℕ) {report report′ after after′ : List ℕ} → TidyInto limits text room report after → TidyInto limits text room report′ after′ → (report ≡ report′) × (after ≡ after′)
+tidy-unique limits text room p q = let b = both (λ a c. one-judged limits text) p q in (b .1 .reported ∙ sym (b .2 .reported), b .1 .holds ∙ sym (b .2 .holds))

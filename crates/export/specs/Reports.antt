@@ -6,10 +6,12 @@ use Prim.Native.Nat.{ℕ}
 use lib.Dec.{eqb}
 use lib.IntN.{ℤ}
 use lib.ListN.{length}
+use Rattle.limits.specs.Limits.{Limits}
 use Rattle.base.specs.Answers.{Answer, given, refused, number}
 use Rattle.endings.specs.Endings.{normal}
 use Rattle.rules.specs.Machine.{Report, room-after, stack-after}
-use Rattle.compiler.specs.Compiled.{Accepted, code-of-text, need-of, table-after}
+use Rattle.compiler.specs.Compiled.{Accepted, code-of-text, need-of, table-after, Judged, With-answer}
+use Rattle.tidy.specs.Tidy.{tidied, copy-and-zeros, tidy-numbers}
 use Rattle.kit.specs.Kit.{own-run, Faithful}
 
 -- ---- of compiling
@@ -69,3 +71,15 @@ module _ (text : List ℕ) (readings : List ℤ) (budget : ℕ) (stack : List �
     pub cells : stack′ ≡ stack-left a
     pub room : out′ ≡ room-left a
     pub means : Means a
+
+-- ---- of a tidy copy
+
+module _ (limits : Limits) (text : List ℕ) (room : ℕ) where
+  -- number, place and length, and what the room then holds, are those of a
+  pub record TidiedInto (numbers after : List ℕ) (a : Answer Accepted) : Type 0 where
+    pub reported : numbers ≡ tidy-numbers (tidied limits text room a)
+    pub holds : after ≡ copy-and-zeros limits text room a
+
+  -- of the answer to the text
+  abbrev pub TidyInto : List ℕ → List ℕ → Type 0
+  TidyInto numbers after = With-answer (Judged limits text) (TidiedInto numbers after)

@@ -5,7 +5,7 @@ ghost use Rattle.rules.specs.Machine.{whole-run};
 ghost use Rattle.machine.specs.Promise.{lends};
 ghost use Rattle.limits.specs.Limits.{Sizes};
 ghost use Rattle.compiler.specs.Compiled.{Compiled, With-answer};
-ghost use Rattle.export.specs.Reports.{RanInto, CompiledInto, RanTextInto};
+ghost use Rattle.export.specs.Reports.{RanInto, CompiledInto, RanTextInto, TidyInto};
 use limits::Limits;
 
 // A text compiled into the table; the report is its number, place, instructions, cells and stack need, where a refusal has only the first two.
@@ -52,4 +52,14 @@ pub extern "C" fn o_run_text(
 {
     let c = kit::run_text(text, readings, budget, table, stack, out);
     *report = reports::of_text(c, out);
+}
+
+// A tidy copy of the text in the room, and zeros past it; the report is its number, place and length, where a refusal has no length.
+#[no_mangle]
+pub extern "C" fn o_tidy(text: &[u8], room: &mut [u8], report: &mut [u64; 3])
+    ghost { Sizes }
+    requires { λ sizes. do ⌜ record { word = (← ⟦Limits::WORD⟧); string = (← ⟦Limits::STRING⟧); literal = (← ⟦Limits::LITERAL⟧) } ≡ sizes ⌝ }
+    ensures { λ sizes _. do ⌜ TidyInto (record { text = (← ⟦Limits::TEXT⟧ .entry); sizes = sizes; nesting = (← ⟦Limits::NESTING⟧ .entry); declarations = (← ⟦Limits::DECLARATIONS⟧ .entry); instructions = (← ⟦Limits::INSTRUCTIONS⟧ .entry) }) (now (text .entry)) (length (now (room .entry))) (now (report .exit)) (now (room .exit)) ⌝ }
+{
+    *report = tidy::numbers(tidy::tidy(text, room));
 }
