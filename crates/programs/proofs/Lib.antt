@@ -1,4 +1,5 @@
 pub mod Beginnings
+pub mod Copies
 pub mod Lessons
 pub mod Listings
 pub mod Tellings

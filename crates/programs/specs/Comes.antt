@@ -1,18 +1,20 @@
--- What the code promises of the room that it is lent, and of what it says of a run.
+-- What the code promises of the room that it is lent, and of what it says of a run and of a copy.
 use mathlib.Core.Path.{_≡_}
-use mathlib.Core.List.{List}
+use mathlib.Core.List.{List, []}
 use Prim.Native.Nat.{ℕ}
-use Rattle.limits.specs.Limits.{Sizes}
+use Rattle.limits.specs.Limits.{Limits, Sizes}
 use Rattle.base.specs.declared.Refusal.{Refusal}
 use Rattle.base.specs.Answers.{Answer, given, refused}
 use Rattle.rules.specs.Machine.{Report, room-after}
 use Rattle.machine.specs.Promise.{Reported}
 use Rattle.machine.specs.declared.Report as Code
+use Rattle.compiler.specs.Compiled.{Judged, With-answer}
 use Rattle.reports.specs.declared.Came.{Came}
 use Rattle.reports.specs.declared.Came.the-variants.{Ran, Refused}
 use Rattle.tells.specs.Tells as T
 use Rattle.tells.specs.Writes.{Writes}
 use Rattle.tells.specs.declared.Said.{Said}
+use Rattle.programs.specs.Programs.{copied}
 
 -- the limits of a lexeme, and the steps of a run: what a contract that reads four numbers at once reads first
 pub record Given : Type 0 where
@@ -33,3 +35,7 @@ room-left (refused why p) room = room
 pub record Tells (say : Answer Report → T.Said) (a : Answer Report) (room : List ℕ) (r : Said) (room′ out out′ err err′ : List ℕ) : Type 0 where
   pub says : Writes (say a) r out out′ err err′
   pub after : room′ ≡ room-left a room
+
+-- what is said of a text's copy
+abbrev pub Copies : Limits → List ℕ → Said → List ℕ → List ℕ → Type 0
+Copies limits text r page page′ = With-answer (Judged limits text) (λ a. Writes (copied limits text a) r page page′ [] [])

@@ -1,2 +1,3 @@
 pub mod Comes
 pub mod Programs
+pub mod inner

@@ -1,5 +1,6 @@
--- Document 01, "What the kit holds": what each program says, from the bytes that it reads.
-use mathlib.Core.List.{List}
+-- Document 01, "What the kit holds", and document 02, T-05: what each program says, from the bytes that it reads.
+use mathlib.Core.Bool.{cond}
+use mathlib.Core.List.{List, [], _++_}
 use Prim.Native.Nat.{ℕ, _*_}
 use lib.IntN.{ℤ}
 use lib.ListN.{length}
@@ -9,7 +10,9 @@ use Rattle.instruction.specs.Instructions.{numbers}
 use Rattle.rules.specs.Machine.{Report}
 use Rattle.compiler.specs.Compiled.{Accepted, code-of-text, need-of, Compiled}
 use Rattle.kit.specs.Kit.{worked-out}
-use Rattle.tells.specs.Tells.{Said, listing, refusal}
+use Rattle.tidy.specs.Tidy.{tidy-of, no-room, longer}
+use Rattle.lines.specs.Lines.{line-end, refusal-line}
+use Rattle.tells.specs.Tells.{Said, good, not-good, listing, refusal}
 
 -- ---- what comes of a text
 
@@ -26,3 +29,15 @@ came budget room readings a = pass a λ x. given (worked-out readings room budge
 unfoldable pub listed : Answer Accepted → Said
 listed (given a) = listing (length (code-of-text a)) (a .cells) (need-of a) (numbers (code-of-text a))
 listed (refused why p) = refusal why p
+
+-- ---- the program for a tidy copy, whose room is as long as a text may be: the copy and a line end, or the refusal's line; its status is good exactly when there is a copy
+
+abbrev pub copy : List ℕ → Said
+copy tidy = record { out = tidy ++ line-end; err = []; status = good }
+
+abbrev pub no-copy : Said
+no-copy = record { out = refusal-line no-room 0; err = []; status = not-good }
+
+unfoldable pub copied : Limits → List ℕ → Answer Accepted → Said
+copied limits text (given a) = cond (longer limits text (limits .text)) no-copy (copy (tidy-of (limits .sizes) text))
+copied limits text (refused why p) = refusal why p
