@@ -1,4 +1,4 @@
--- Laws of counting, of what bytes stand for and of numbers. Assumes nothing.
+-- Laws of counting, of what bytes stand for, of numbers and of bytes put so many times. Assumes nothing.
 use mathlib.Core.Path.{_≡_}
 use mathlib.Core.Bool.{Bool, true, false, cond}
 use mathlib.Core.List.{List, [], _∷_, _++_, map, append-assoc, append-nil}
@@ -10,7 +10,7 @@ use lib.Dec.{eqb}
 use lib.ListN.{length, getD, set, take, drop, drop-of-length-le}
 use lib.Seq.{drop-cons, drop-set-lt, take-suc-set, take-all}
 use mir.Val.{boolByte}
-use Rattle.cases.specs.Cases.{marks, meant, worth}
+use Rattle.cases.specs.Cases.{marks, meant, worth, times}
 
 -- ---- counting
 
@@ -51,3 +51,13 @@ module _ (s : List ℕ) (n i : ℕ) where
   pub worth-out : length s ≤ i → n ≡ worth n (drop i s)
   unfolding worth
   worth-out p = rw (drop-of-length-le s p)
+
+-- ---- so many times the bytes: those that are left after i times
+
+pub times-on : (s : List ℕ) (n i : ℕ) → i < n → times (n - i) s ≡ s ++ times (n - (i + 1)) s
+unfolding times
+times-on s n i p = let e : n - i ≡ suc (n - (i + 1)) = omega arith in rw e
+
+pub times-out : (s : List ℕ) (n i : ℕ) → n ≤ i → times (n - i) s ≡ []
+unfolding times
+times-out s n i p = let e : n - i ≡ 0 = omega arith in rw e

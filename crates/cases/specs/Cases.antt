@@ -1,7 +1,7 @@
 -- Cases one after the other, each ended by a mark.
-use mathlib.Core.List.{List, [], _∷_}
+use mathlib.Core.List.{List, [], _∷_, _++_}
 use mathlib.Core.Bool.{cond}
-use Prim.Native.Nat.{ℕ, suc, _+_, _-_, _*_}
+use Prim.Native.Nat.{ℕ, zero, suc, _+_, _-_, _*_}
 use lib.Dec.{eqb, ltb}
 
 unfoldable pub marks : ℕ → List ℕ → ℕ
@@ -16,3 +16,8 @@ meant b = cond (eqb b 10) 30 (cond (eqb b 36) 10 (cond (eqb b 38) 9 (cond (eqb b
 unfoldable pub worth : ℕ → List ℕ → ℕ
 worth n [] = n
 worth n (b ∷ s) = cond (ltb 9999 n) n (worth (n * 10 + (b - 48)) s)
+
+-- so many times the bytes, one after the other
+unfoldable pub times : ℕ → List ℕ → List ℕ
+times zero s = []
+times (suc n) s = s ++ times n s

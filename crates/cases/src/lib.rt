@@ -3,7 +3,9 @@
 ghost use mathlib.Core.Path.{_≡_};
 ghost use mathlib.Core.List.{map};
 ghost use Prim.Native.Nat.{_-_, _≤_};
-ghost use Rattle.cases.specs.Cases.{marks, meant, worth};
+ghost use Rattle.lines.specs.Added.{Added};
+ghost use Rattle.cases.specs.Cases.{marks, meant, worth, times};
+use base::smaller;
 
 // How many there are.
 pub fn count(cases: &[u8], mark: u8) -> usize
@@ -77,4 +79,17 @@ pub fn worth(digits: &[u8]) -> usize
         i += 1;
     }
     n
+}
+
+// The place after a piece that was put so many times: a short case says a long text.
+pub fn put_many(page: &mut [u8], at: usize, piece: &[u8], n: usize) -> usize
+    ensures { λ r. ⌜ Added (times n (now (piece .entry))) (now (page .entry)) at (now (page .exit)) r ⌝ }
+{
+    let mut next = smaller(page.len(), at);
+    let mut i = 0;
+    while i < n {
+        next = lines::put(page, next, piece);
+        i += 1;
+    }
+    next
 }

@@ -2,17 +2,6 @@
 use crate::answers;
 use limits::Limits;
 
-// The place after a piece that was put so many times.
-fn many(text: &mut [u8], at: usize, piece: &[u8], n: usize) -> usize {
-    let mut e = at;
-    let mut i = 0;
-    while i < n {
-        e = lines::put(text, e, piece);
-        i += 1;
-    }
-    e
-}
-
 fn answer(text: &[u8]) {
     let mut table = [7i32; Limits::INSTRUCTIONS * 2];
     answers::say_answer(answers::compiled(text, &mut table));
@@ -27,9 +16,9 @@ fn put_nested(
     middle: &[u8],
     close: &[u8],
 ) -> usize {
-    let a = many(text, at, open, n);
+    let a = cases::put_many(text, at, open, n);
     let b = lines::put(text, a, middle);
-    many(text, b, close, n)
+    cases::put_many(text, b, close, n)
 }
 
 // The same after a beginning.

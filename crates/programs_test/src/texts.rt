@@ -1,18 +1,8 @@
 // Bytes put together from pieces.
 
-fn many(text: &mut [u8], at: usize, piece: &[u8], n: usize) -> usize {
-    let mut e = at;
-    let mut i = 0;
-    while i < n {
-        e = lines::put(text, e, piece);
-        i += 1;
-    }
-    e
-}
-
 // A number, a colon and a piece: the piece so many times.
 fn put_again(text: &mut [u8], at: usize, bytes: &[u8]) -> usize {
-    many(
+    cases::put_many(
         text,
         at,
         rows::nth(bytes, b':', 1),
