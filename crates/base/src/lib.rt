@@ -1,4 +1,6 @@
 // Bytes, their classes and comparing them; refusals and their numbers; and numbers set to 0.
+#![tactic(auto)]
+
 ghost use Rattle.std.specs.Prelude.{◌≡◌, ◌+◌, min, pos, length, drop, replicate};
 ghost use Rattle.base.specs.Bytes.{separator, small, letter, digit, run, begins, same};
 ghost use Rattle.base.specs.inner.Parts.{part};
@@ -6,7 +8,7 @@ ghost use Rattle.base.specs.inner.Kinds.{such};
 ghost use Rattle.base.specs.Answers.{number};
 
 // Why a text is refused: document 01, "Refused texts".
-#[derive(Drop)]
+#[derive(Clone, Copy)]
 pub enum Refusal {
     TooLong,
     NoLexeme,
@@ -35,7 +37,7 @@ pub fn number(why: Refusal) -> u8
 }
 
 // Kinds of bytes: what a run is made of, and what a word begins with.
-#[derive(Drop)]
+#[derive(Clone, Copy)]
 pub enum Such {
     Separator,
     Small,

@@ -1,4 +1,5 @@
 // The compiler: a text judged, and its code written into a lent table.
+#![tactic(auto)]
 mod command;
 mod expression;
 mod naming;
@@ -21,7 +22,7 @@ use walk::Read;
 // DO, one Command, the end; the Command's code begins at a place.
 fn program(text: &[u8], names: &mut [usize], table: &mut [i32], code: usize) -> Read
     requires { SetOut text.now names.old code }
-    ensures* { do ⌜ ReadsProgram (← (⟦Limits::NESTING⟧).entry) text.now names.old table.old code result names.new table.new ⌝ }
+    ensures { ReadsProgram Limits.NESTING text.now names.old table.old code result names.new table.new }
 {
     let a = walk::advance(text, walk::start(code), 0);
     let Read::Done(w, _) = a else {
@@ -47,8 +48,8 @@ const NAMES: usize = names::COUNTS + Limits::DECLARATIONS * names::ENTRY;
 
 // What the sentences decide. Nothing is written: the table holds no pair.
 fn measured(text: &[u8], names: &mut [usize; NAMES]) -> Answer
-    requires* { do ⌜ length text.now ≤ (← ⟦Limits::TEXT⟧) ⌝ }
-    ensures* { do ⌜ Measured (← (⟦Limits::NESTING⟧).entry) (← (⟦Limits::DECLARATIONS⟧).entry) (← (⟦Limits::INSTRUCTIONS⟧).entry) text.now result ⌝ }
+    requires { length text.now ≤ Limits.TEXT }
+    ensures { Measured Limits.NESTING Limits.DECLARATIONS Limits.INSTRUCTIONS text.now result }
 {
     scopes::start(names);
     let mut none = [0i32; 1];
@@ -65,9 +66,7 @@ fn measured(text: &[u8], names: &mut [usize; NAMES]) -> Answer
 
 // A text's answer, whatever table there is, over a lent list. The ghost value is the limits of a lexeme: with them and the four others one clause names all seven.
 fn judged(text: &[u8], names: &mut [usize; NAMES]) -> Answer
-    ghost sizes: { Sizes }
-    requires* { do ⌜ record { word = (← ⟦Limits::WORD⟧); string = (← ⟦Limits::STRING⟧); literal = (← ⟦Limits::LITERAL⟧) } ≡ sizes ⌝ }
-    ensures* { do ⌜ WithAnswer (Judged (record { text = (← (⟦Limits::TEXT⟧).entry); sizes = sizes; nesting = (← (⟦Limits::NESTING⟧).entry); declarations = (← (⟦Limits::DECLARATIONS⟧).entry); instructions = (← (⟦Limits::INSTRUCTIONS⟧).entry) }) text.entry.now) (λ a. result ≡ answered a) ⌝ }
+    ensures { WithAnswer (Judged (record { text = Limits.TEXT; sizes = record { word = Limits.WORD; string = Limits.STRING; literal = Limits.LITERAL }; nesting = Limits.NESTING; declarations = Limits.DECLARATIONS; instructions = Limits.INSTRUCTIONS }) text.entry.now) (λ a. result ≡ answered a) }
 {
     if scan::too_long(text) {
         return Answer::Refused(Refusal::TooLong, 0);
@@ -81,9 +80,7 @@ fn judged(text: &[u8], names: &mut [usize; NAMES]) -> Answer
 
 // That, with a list of its own.
 pub fn judge(text: &[u8]) -> Answer
-    ghost sizes: { Sizes }
-    requires* { do ⌜ record { word = (← ⟦Limits::WORD⟧); string = (← ⟦Limits::STRING⟧); literal = (← ⟦Limits::LITERAL⟧) } ≡ sizes ⌝ }
-    ensures* { do ⌜ WithAnswer (Judged (record { text = (← (⟦Limits::TEXT⟧).entry); sizes = sizes; nesting = (← (⟦Limits::NESTING⟧).entry); declarations = (← (⟦Limits::DECLARATIONS⟧).entry); instructions = (← (⟦Limits::INSTRUCTIONS⟧).entry) }) text.entry.now) (λ a. result ≡ answered a) ⌝ }
+    ensures { WithAnswer (Judged (record { text = Limits.TEXT; sizes = record { word = Limits.WORD; string = Limits.STRING; literal = Limits.LITERAL }; nesting = Limits.NESTING; declarations = Limits.DECLARATIONS; instructions = Limits.INSTRUCTIONS }) text.entry.now) (λ a. result ≡ answered a) }
 {
     let mut names = [0usize; NAMES];
     judged(text, &mut names)
@@ -91,8 +88,8 @@ pub fn judge(text: &[u8]) -> Answer
 
 // The code of a text that has so many cells.
 fn write(text: &[u8], names: &mut [usize; NAMES], table: &mut [i32], cells: usize)
-    requires* { do ⌜ (length text.now ≤ (← ⟦Limits::TEXT⟧)) × (cells ≤ (← ⟦Limits::INSTRUCTIONS⟧)) ⌝ }
-    ensures* { do ⌜ Written (← (⟦Limits::NESTING⟧).entry) (← (⟦Limits::DECLARATIONS⟧).entry) text.now cells table.old table.new ⌝ }
+    requires { (length text.now ≤ Limits.TEXT × (cells ≤ Limits.INSTRUCTIONS }
+    ensures { Written Limits.NESTING Limits.DECLARATIONS text.now cells table.old table.new }
 {
     scopes::start(names);
     tables::put_cells(table, cells);
@@ -105,9 +102,7 @@ fn write(text: &[u8], names: &mut [usize; NAMES], table: &mut [i32], cells: usiz
 
 // Judged; then the table's room; then written. One list serves both passes: a second would be 8 KB more of native stack.
 pub fn compile(text: &[u8], table: &mut [i32]) -> Answer
-    ghost sizes: { Sizes }
-    requires* { do ⌜ record { word = (← ⟦Limits::WORD⟧); string = (← ⟦Limits::STRING⟧); literal = (← ⟦Limits::LITERAL⟧) } ≡ sizes ⌝ }
-    ensures* { do ⌜ WithAnswer (Compiled (record { text = (← (⟦Limits::TEXT⟧).entry); sizes = sizes; nesting = (← (⟦Limits::NESTING⟧).entry); declarations = (← (⟦Limits::DECLARATIONS⟧).entry); instructions = (← (⟦Limits::INSTRUCTIONS⟧).entry) }) text.entry.now (length table.old)) (Compiles (length table.old) result table.new) ⌝ }
+    ensures { WithAnswer (Compiled (record { text = Limits.TEXT; sizes = record { word = Limits.WORD; string = Limits.STRING; literal = Limits.LITERAL }; nesting = Limits.NESTING; declarations = Limits.DECLARATIONS; instructions = Limits.INSTRUCTIONS }) text.entry.now (length table.old)) (Compiles (length table.old) result table.new) }
 {
     base::clear(table);
     let mut names = [0usize; NAMES];

@@ -9,7 +9,7 @@ use lexeme::{Found, Kind, Lexeme, fixed};
 use tables::NameFault;
 
 // What is threaded through a reading.
-#[derive(Drop)]
+#[derive(Clone, Copy)]
 pub struct Walk {
     // The lexeme that it stands before.
     pub next: Lexeme,
@@ -19,13 +19,13 @@ pub struct Walk {
 }
 
 // What a construct gives.
-#[derive(Drop)]
+#[derive(Clone, Copy)]
 pub struct Gives {
     // Its stack need.
     pub need: usize,
 }
 
-#[derive(Drop)]
+#[derive(Clone, Copy)]
 pub enum Read {
     Done(Walk, Gives),
     Refused(Refusal, usize),

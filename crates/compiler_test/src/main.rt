@@ -2,6 +2,7 @@
 // pair of classes in either order of place: the class decides before the place, and within a class the place.
 // A case is a text, whose listing is written; or, between bars, a text and how many numbers its table has; a heading with two bars;
 // or a text at a limit: its beginning, what is put so many times, how many, its middle, and what closes it as often.
+#![tactic(auto)]
 use libc::STDIN_FILENO;
 
 mod answers;

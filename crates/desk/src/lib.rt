@@ -1,4 +1,5 @@
 // The programs and the outside: their files are read, what they say is written, and what goes wrong there is told.
+#![tactic(auto)]
 ghost use Rattle.std.specs.Prelude.{length};
 ghost use Rattle.input.specs.Received.{Receives};
 ghost use Rattle.input.specs.Within.{Within};
@@ -67,7 +68,7 @@ fn readings_input(numbers: &mut [i32]) -> Received
 }
 
 // The bytes of a text, and its readings.
-#[derive(Drop)]
+#[derive(Clone, Copy)]
 pub enum Lesson {
     Read(usize, usize),
     Unreadable,

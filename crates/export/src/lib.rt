@@ -1,4 +1,5 @@
 // What C and Rust call. A slice passes as a pointer and a length (include/o.h).
+#![tactic(auto)]
 ghost use Rattle.std.specs.Prelude.{◌≡◌, length};
 ghost use Rattle.rules.specs.Machine.{whole_run};
 ghost use Rattle.machine.specs.Promise.{lends};
@@ -11,9 +12,7 @@ use limits::Limits;
 // A text compiled into the table; the report is its number, place, instructions, cells and stack need, where a refusal has only the first two.
 #[unsafe(no_mangle)]
 pub extern "C" fn o_compile(text: &[u8], table: &mut [i32], report: &mut [u64; 5])
-    ghost sizes: { Sizes }
-    requires* { do ⌜ record { word = (← ⟦Limits::WORD⟧); string = (← ⟦Limits::STRING⟧); literal = (← ⟦Limits::LITERAL⟧) } ≡ sizes ⌝ }
-    ensures* { do ⌜ WithAnswer (Compiled (record { text = (← (⟦Limits::TEXT⟧).entry); sizes = sizes; nesting = (← (⟦Limits::NESTING⟧).entry); declarations = (← (⟦Limits::DECLARATIONS⟧).entry); instructions = (← (⟦Limits::INSTRUCTIONS⟧).entry) }) text.entry.now (length table.old)) (CompiledInto (length table.old) report.new table.new) ⌝ }
+    ensures { WithAnswer (Compiled (record { text = Limits.TEXT; sizes = record { word = Limits.WORD; string = Limits.STRING; literal = Limits.LITERAL }; nesting = Limits.NESTING; declarations = Limits.DECLARATIONS; instructions = Limits.INSTRUCTIONS }) text.entry.now (length table.old)) (CompiledInto (length table.old) report.new table.new) }
 {
     *report = reports::of_answer(compiler::compile(text, table));
 }
@@ -46,9 +45,7 @@ pub extern "C" fn o_run_text(
     out: &mut [u8],
     report: &mut [u64; 7],
 )
-    ghost sizes: { Sizes }
-    requires* { do ⌜ record { word = (← ⟦Limits::WORD⟧); string = (← ⟦Limits::STRING⟧); literal = (← ⟦Limits::LITERAL⟧) } ≡ sizes ⌝ }
-    ensures* { do ⌜ WithAnswer (Compiled (record { text = (← (⟦Limits::TEXT⟧).entry); sizes = sizes; nesting = (← (⟦Limits::NESTING⟧).entry); declarations = (← (⟦Limits::DECLARATIONS⟧).entry); instructions = (← (⟦Limits::INSTRUCTIONS⟧).entry) }) text.entry.now (length table.old)) (RanTextInto text.entry.now readings.now budget stack.old out.old (length table.old) report.new table.new stack.new out.new) ⌝ }
+    ensures { WithAnswer (Compiled (record { text = Limits.TEXT; sizes = record { word = Limits.WORD; string = Limits.STRING; literal = Limits.LITERAL }; nesting = Limits.NESTING; declarations = Limits.DECLARATIONS; instructions = Limits.INSTRUCTIONS }) text.entry.now (length table.old)) (RanTextInto text.entry.now readings.now budget stack.old out.old (length table.old) report.new table.new stack.new out.new) }
 {
     let c = kit::run_text(text, readings, budget, table, stack, out);
     *report = reports::of_text(c, out);
@@ -57,9 +54,7 @@ pub extern "C" fn o_run_text(
 // A tidy copy of the text in the room, and zeros past it; the report is its number, place and length, where a refusal has no length.
 #[unsafe(no_mangle)]
 pub extern "C" fn o_tidy(text: &[u8], room: &mut [u8], report: &mut [u64; 3])
-    ghost sizes: { Sizes }
-    requires* { do ⌜ record { word = (← ⟦Limits::WORD⟧); string = (← ⟦Limits::STRING⟧); literal = (← ⟦Limits::LITERAL⟧) } ≡ sizes ⌝ }
-    ensures* { do ⌜ TidyInto (record { text = (← (⟦Limits::TEXT⟧).entry); sizes = sizes; nesting = (← (⟦Limits::NESTING⟧).entry); declarations = (← (⟦Limits::DECLARATIONS⟧).entry); instructions = (← (⟦Limits::INSTRUCTIONS⟧).entry) }) text.entry.now (length room.old) report.new room.new ⌝ }
+    ensures { TidyInto (record { text = Limits.TEXT; sizes = record { word = Limits.WORD; string = Limits.STRING; literal = Limits.LITERAL }; nesting = Limits.NESTING; declarations = Limits.DECLARATIONS; instructions = Limits.INSTRUCTIONS }) text.entry.now (length room.old) report.new room.new }
 {
     *report = tidy::numbers(tidy::tidy(text, room));
 }

@@ -1,19 +1,21 @@
-// As station, for the feed, with a text or a card: standard output gets the output of a run with ending 0 and nothing else; why nothing may be sent is said on standard error.
+// As station, for the feed: standard output gets the output of a run with ending 0 and nothing else; why nothing may be sent is said on standard error.
+#![tactic(auto)]
 use desk::Lesson;
+use limits::Limits;
 use limits::Station;
 
 fn main() {
-    let mut file = [0u8; cards::FILE + 1];
+    let mut text = [0u8; Limits::TEXT + 1];
     let mut numbers = [0i32; Station::READINGS];
-    let read = desk::read_lesson(&mut file, &mut numbers);
+    let read = desk::read_lesson(&mut text, &mut numbers);
     let Lesson::Read(size, count) = read else {
         return;
     };
     let mut room = [0u8; Station::ROOM];
     let mut page = [0u8; tells::PAGE];
     let mut note = [0u8; tells::LINE];
-    let s = cards::feed(
-        &file[..size],
+    let s = programs::feed(
+        &text[..size],
         &numbers[..count],
         &mut room,
         &mut page,

@@ -1,4 +1,5 @@
 // What the programs read: the text of a file, and the readings of an input.
+#![tactic(auto)]
 ghost use Rattle.std.specs.Prelude.{length};
 ghost use Rattle.input.specs.Chunks.{Goes_on};
 ghost use Rattle.input.specs.Received.{Receives};
@@ -6,7 +7,7 @@ ghost use Rattle.input.specs.Within.{Within};
 
 use readings::Reader;
 
-#[derive(Drop)]
+#[derive(Clone, Copy)]
 pub enum Loaded {
     Bytes(usize),
     Unreadable,
@@ -45,7 +46,7 @@ pub fn text_file(path: &[u8], text: &mut [u8]) -> Loaded
 }
 
 // What one read leads to, and whether another may change anything.
-#[derive(Drop)]
+#[derive(Clone, Copy)]
 enum Chunk {
     Came(Reader, bool),
     Failed,
@@ -66,7 +67,7 @@ fn take_chunk(fd: i32, r: Reader, numbers: &mut [i32]) -> Chunk
     Chunk::Came(next, more)
 }
 
-#[derive(Drop)]
+#[derive(Clone, Copy)]
 pub enum Received {
     Readings(usize),
     Unreadable,

@@ -9,7 +9,7 @@ use super::operations;
 use numbers::arith::Operator;
 
 // An instruction as it is done: one for the operators and relations, and one for the strings, with or without a line feed.
-#[derive(Drop)]
+#[derive(Clone, Copy)]
 pub enum Op {
     Bad,
     Halt(u8),

@@ -1,4 +1,5 @@
 // What users call: a text compiled and run.
+#![tactic(auto)]
 ghost use Rattle.std.specs.Prelude.{◌≡◌, length};
 ghost use Rattle.limits.specs.Limits.{Sizes};
 ghost use Rattle.compiler.specs.Compiled.{Compiled, WithAnswer};
@@ -17,9 +18,7 @@ pub fn run_text(
     stack: &mut [i32],
     out: &mut [u8],
 ) -> Came
-    ghost sizes: { Sizes }
-    requires* { do ⌜ record { word = (← ⟦Limits::WORD⟧); string = (← ⟦Limits::STRING⟧); literal = (← ⟦Limits::LITERAL⟧) } ≡ sizes ⌝ }
-    ensures* { do ⌜ WithAnswer (Compiled (record { text = (← (⟦Limits::TEXT⟧).entry); sizes = sizes; nesting = (← (⟦Limits::NESTING⟧).entry); declarations = (← (⟦Limits::DECLARATIONS⟧).entry); instructions = (← (⟦Limits::INSTRUCTIONS⟧).entry) }) text.entry.now (length table.old)) (OutcomeOf text.entry.now readings.now budget stack.old out.old (length table.old) result table.new stack.new out.new) ⌝ }
+    ensures { WithAnswer (Compiled (record { text = Limits.TEXT; sizes = record { word = Limits.WORD; string = Limits.STRING; literal = Limits.LITERAL }; nesting = Limits.NESTING; declarations = Limits.DECLARATIONS; instructions = Limits.INSTRUCTIONS }) text.entry.now (length table.old)) (OutcomeOf text.entry.now readings.now budget stack.old out.old (length table.old) result table.new stack.new out.new) }
 {
     let a = compiler::compile(text, table);
     match a {

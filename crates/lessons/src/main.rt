@@ -1,4 +1,5 @@
 // Runs each lesson on its readings, and writes what came of it.
+#![tactic(auto)]
 use input::{Loaded, Received};
 use libc::STDOUT_FILENO;
 use limits::{Limits, Station};

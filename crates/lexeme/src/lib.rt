@@ -1,4 +1,5 @@
 // Lexemes: their kinds, and the keywords.
+#![tactic(auto)]
 ghost use Rattle.std.specs.Prelude.{◌≡◌, ℕ};
 ghost use Rattle.lexeme.specs.Lexemes.{keywords, capital_word};
 ghost use Rattle.lexeme.specs.inner.Coded.{kind_of, fixed_number};
@@ -9,7 +10,7 @@ pub mod fixed;
 mod keyword;
 
 // What a lexeme is. A literal has its value, or the largest number where that is beyond it. Of the fixed ones a symbol is its byte, `:=` that of its colon, and a keyword its number in alphabetical order, from 1; the end of the text is one too, 0: specs/inner/Coded.antt has the table.
-#[derive(Drop)]
+#[derive(Clone, Copy)]
 pub enum Kind {
     Literal(u32),
     Name,
@@ -19,7 +20,7 @@ pub enum Kind {
 }
 
 // A lexeme, the place of its first byte, and the place after it.
-#[derive(Drop)]
+#[derive(Clone, Copy)]
 pub struct Lexeme {
     pub kind: Kind,
     pub place: usize,
@@ -27,7 +28,7 @@ pub struct Lexeme {
 }
 
 // What stands next in a text: a lexeme, which may be the end, or why and where it is refused.
-#[derive(Drop)]
+#[derive(Clone, Copy)]
 pub enum Found {
     Is(Lexeme),
     Refused(Refusal, usize),

@@ -1,5 +1,6 @@
 // The lexemes of the texts of standard input, a line for each: the bench examples, document 001's listings 3.1, 3.2, 3.3 and 6.2, every
 // lexeme, what is none, and the edges. A case is a label, a bar and a text, or a text that is its own label.
+#![tactic(auto)]
 use lexeme::{Found, Kind, Lexeme, fixed};
 use libc::STDIN_FILENO;
 use limits::Limits;

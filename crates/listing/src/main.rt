@@ -1,4 +1,5 @@
 // The listing of the text on standard input, or the line of its refusal.
+#![tactic(auto)]
 use input::Loaded;
 use limits::Limits;
 

@@ -1,4 +1,5 @@
 // The machine: any code table, one numbered ending.
+#![tactic(auto)]
 ghost use Rattle.std.specs.Prelude.{◌≡◌};
 ghost use Rattle.rules.specs.Machine.{whole_run};
 ghost use Rattle.machine.specs.inner.Coded.{reports};
@@ -8,7 +9,7 @@ use moves::{Move, State};
 
 mod step;
 
-#[derive(Drop)]
+#[derive(Clone, Copy)]
 pub struct Report {
     pub ending: u8,
     pub steps: u32,

@@ -1,6 +1,7 @@
 // Runs the tables of standard input, a line each:
 //   label: budget cells room |readings|text|table
 // and writes a line for each: label, ending, steps, readings used, output, and whether the room past it is untouched and the stack clean.
+#![tactic(auto)]
 ghost use Rattle.std.specs.Prelude.{◌≤◌};
 
 use libc::{STDIN_FILENO, STDOUT_FILENO};
@@ -140,7 +141,7 @@ fn first(numbers: &[i32], n: usize) -> &[i32] {
 }
 
 // The budget, and how many cells and bytes are lent.
-#[derive(Drop)]
+#[derive(Clone, Copy)]
 struct Lent {
     budget: u32,
     cells: u32,

@@ -1,4 +1,5 @@
 // How the line of a place is shown, with a mark under the place.
+#![tactic(auto)]
 ghost use Rattle.std.specs.Prelude.{◌≡◌, ◌++◌, map, replicate};
 ghost use Rattle.base.specs.Bytes.{bytes};
 ghost use Rattle.lines.specs.Added.{Added};
@@ -38,7 +39,7 @@ fn seen(b: u8) -> u8
 
 // Where what is shown of the bytes before a place begins.
 fn shown_from(before: &[u8]) -> usize
-    ensures* { do ⌜ result ≡ shown_from (← (⟦Window::WHOLE⟧).entry) (← (⟦Window::LAST⟧).entry) before.now ⌝ }
+    ensures { result ≡ shown_from Window.WHOLE Window.LAST before.now }
 {
     if before.len() <= Window::WHOLE {
         return 0;
@@ -49,7 +50,7 @@ fn shown_from(before: &[u8]) -> usize
 
 // Where what is shown of the bytes from a place on ends.
 fn shown_to(after: &[u8]) -> usize
-    ensures* { do ⌜ result ≡ shown_to (← (⟦Window::NEXT⟧).entry) (← (⟦Window::REST⟧).entry) after.now ⌝ }
+    ensures { result ≡ shown_to Window.NEXT Window.REST after.now }
 {
     let next = within(after, Window::NEXT);
     let others = &after[next..];
@@ -119,7 +120,7 @@ fn put_mark(page: &mut [u8], at: usize, front: bool, before: &[u8]) -> usize
 
 // Both, by the line's bytes before the place and from it on.
 fn put_marked(page: &mut [u8], at: usize, before: &[u8], after: &[u8]) -> usize
-    ensures* { do ⌜ Added (marked (record { whole = (← (⟦Window::WHOLE⟧).entry); last = (← (⟦Window::LAST⟧).entry); next = (← (⟦Window::NEXT⟧).entry); rest = (← (⟦Window::REST⟧).entry) }) before.now after.now) page.old at page.new result ⌝ }
+    ensures { Added (marked (record { whole = Window.WHOLE; last = Window.LAST; next = Window.NEXT; rest = Window.REST }) before.now after.now) page.old at page.new result }
 {
     let from = shown_from(before);
     let to = shown_to(after);
@@ -137,7 +138,7 @@ fn put_marked(page: &mut [u8], at: usize, before: &[u8], after: &[u8]) -> usize
 
 // Adds the line of a place to a page, and a mark under the place.
 pub fn put_marked_line(page: &mut [u8], at: usize, text: &[u8], place: usize) -> usize
-    ensures* { do ⌜ Added (marked_line (record { whole = (← (⟦Window::WHOLE⟧).entry); last = (← (⟦Window::LAST⟧).entry); next = (← (⟦Window::NEXT⟧).entry); rest = (← (⟦Window::REST⟧).entry) }) text.now place) page.old at page.new result ⌝ }
+    ensures { Added (marked_line (record { whole = Window.WHOLE; last = Window.LAST; next = Window.NEXT; rest = Window.REST }) text.now place) page.old at page.new result }
 {
     let p = within(text, place);
     let spot = place::spot_of(text, place);

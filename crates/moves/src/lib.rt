@@ -1,6 +1,7 @@
 // The instructions that print nothing, a function for each group, at a state that is past the instruction.
 // Each tests for bad code, then for stack room, then for its own ending. None writes: a move names the cell to be set.
 // `live` is the live cells, as many as the depth, for those that read one; `cells` is how many the stack has, and `size` the table's length.
+#![tactic(auto)]
 ghost use Rattle.std.specs.Prelude.{◌≡◌, ◌+◌, ◌^◌, ◌<◌};
 ghost use Rattle.numbers.specs.inner.Coded.{as_result, as_two_sided};
 ghost use Rattle.moves.specs.inner.Moves.{moves_to, pushes, puts, push_int_move, load_stack_move, store_stack_move, jump_move, jump_if_false_move, two_sided_move, negate_move, not_move, read_move};
@@ -8,7 +9,7 @@ ghost use Rattle.moves.specs.inner.Moves.{moves_to, pushes, puts, push_int_move,
 use numbers::arith::{Calculated, Operator, calculate, negated, truth};
 
 // The machine between two instructions: the index of the next pair in the table, the stack's depth, the readings used, the bytes printed.
-#[derive(Drop)]
+#[derive(Clone, Copy)]
 pub struct State {
     pub index: usize,
     pub depth: usize,
@@ -18,7 +19,7 @@ pub struct State {
 
 // What an instruction leads to: a state; a state once its top cell, or a cell that is named, holds a number; or an ending.
 // A push has a variant of its own: the compiled code then has no cell to hold beside the depth.
-#[derive(Drop)]
+#[derive(Clone, Copy)]
 pub enum Move {
     Go(State),
     Put(State, i32),

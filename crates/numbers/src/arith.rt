@@ -7,13 +7,13 @@ ghost use Rattle.numbers.specs.inner.Coded.{as_result, as_two_sided};
 // Its negation is the one that leaves the range.
 const SMALLEST: i32 = -2147483648;
 
-#[derive(Drop)]
+#[derive(Clone, Copy)]
 pub enum Calculated {
     Value(i32),
     Ends(u8),
 }
 
-#[derive(Drop)]
+#[derive(Clone, Copy)]
 pub enum Operator {
     Plus,
     Minus,

@@ -1,4 +1,5 @@
 // The lines of a code table, added to a page that is lent.
+#![tactic(auto)]
 ghost use Rattle.std.specs.Prelude.{◌≤◌, ◌<◌, ◌+◌, ◌*◌, ◌/◌, pos, length, get_or};
 ghost use Rattle.lines.specs.Added.{Added};
 ghost use Rattle.pairs.specs.Pairs.{instruction_line, table_lines};

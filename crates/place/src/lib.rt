@@ -1,11 +1,12 @@
 // Where a place of a text stands.
+#![tactic(auto)]
 ghost use Rattle.std.specs.Prelude.{◌≡◌, ◌≤◌, length};
 ghost use Rattle.base.specs.Bytes.{run};
 ghost use Rattle.place.specs.Places.{goes_on, count, within, line_start, spot};
 ghost use Rattle.place.specs.inner.Kinds.{such};
 
 // A line and a column, counted from 1, and the place of the line's first byte.
-#[derive(Drop)]
+#[derive(Clone, Copy)]
 pub struct Spot {
     pub line: usize,
     pub column: usize,
@@ -13,7 +14,7 @@ pub struct Spot {
 }
 
 // The bytes that are counted, or that a run is made of.
-#[derive(Drop)]
+#[derive(Clone, Copy)]
 pub enum Such {
     Feed,
     NoFeed,

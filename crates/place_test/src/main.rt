@@ -1,5 +1,6 @@
 // Places at the edges of a text and of a line, each with its line, its column, where its line begins, and the line with its mark.
 // A case of standard input is a label, a text and a place, between bars; those after `#` come after the longest line.
+#![tactic(auto)]
 use libc::{STDIN_FILENO, STDOUT_FILENO};
 use limits::Limits;
 

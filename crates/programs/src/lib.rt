@@ -1,4 +1,5 @@
 // The programs, from the bytes that they read: what comes of a text, and what each says of it. They only read, call one of these and write.
+#![tactic(auto)]
 ghost use Rattle.std.specs.Prelude.{◌≡◌, [], length};
 ghost use Rattle.limits.specs.Limits.{Sizes};
 ghost use Rattle.compiler.specs.Compiled.{WithAnswer};
@@ -19,8 +20,8 @@ pub const COPY: usize = Limits::TEXT + LINE;
 // The text, run on readings. A table and a stack for the most instructions are enough for every accepted text.
 pub fn lesson(text: &[u8], readings: &[i32], room: &mut [u8; Station::ROOM]) -> Came
     ghost g: { Given }
-    requires* { do ⌜ record { sizes = record { word = (← ⟦Limits::WORD⟧); string = (← ⟦Limits::STRING⟧); literal = (← ⟦Limits::LITERAL⟧) }; budget = (← ⟦Station::BUDGET⟧) } ≡ g ⌝ }
-    ensures* { do ⌜ WithAnswer (Tabled (record { text = (← (⟦Limits::TEXT⟧).entry); sizes = g.sizes; nesting = (← (⟦Limits::NESTING⟧).entry); declarations = (← (⟦Limits::DECLARATIONS⟧).entry); instructions = (← (⟦Limits::INSTRUCTIONS⟧).entry) }) text.entry.now) (λ a. Comes room.old (came g.budget (length room.old) readings.now a) result room.new) ⌝ }
+    requires { record { sizes = record { word = Limits.WORD; string = Limits.STRING; literal = Limits.LITERAL }; budget = Station.BUDGET } ≡ g }
+    ensures { WithAnswer (Tabled (record { text = Limits.TEXT; sizes = g.sizes; nesting = Limits.NESTING; declarations = Limits.DECLARATIONS; instructions = Limits.INSTRUCTIONS }) text.entry.now) (λ a. Comes room.old (came g.budget (length room.old) readings.now a) result room.new) }
 {
     let mut table = [0i32; Limits::INSTRUCTIONS * 2];
     let mut stack = [0i32; Limits::INSTRUCTIONS];
@@ -36,9 +37,7 @@ pub fn lesson(text: &[u8], readings: &[i32], room: &mut [u8; Station::ROOM]) -> 
 
 // The listing of a text, or the line of its refusal.
 pub fn listing(text: &[u8], page: &mut [u8; LISTING]) -> Said
-    ghost sizes: { Sizes }
-    requires* { do ⌜ record { word = (← ⟦Limits::WORD⟧); string = (← ⟦Limits::STRING⟧); literal = (← ⟦Limits::LITERAL⟧) } ≡ sizes ⌝ }
-    ensures* { do ⌜ WithAnswer (Tabled (record { text = (← (⟦Limits::TEXT⟧).entry); sizes = sizes; nesting = (← (⟦Limits::NESTING⟧).entry); declarations = (← (⟦Limits::DECLARATIONS⟧).entry); instructions = (← (⟦Limits::INSTRUCTIONS⟧).entry) }) text.entry.now) (λ a. Writes (listed a) result page.old page.new [] []) ⌝ }
+    ensures { WithAnswer (Tabled (record { text = Limits.TEXT; sizes = record { word = Limits.WORD; string = Limits.STRING; literal = Limits.LITERAL }; nesting = Limits.NESTING; declarations = Limits.DECLARATIONS; instructions = Limits.INSTRUCTIONS }) text.entry.now) (λ a. Writes (listed a) result page.old page.new [] []) }
 {
     let mut table = [0i32; Limits::INSTRUCTIONS * 2];
     let a = compiler::compile(text, &mut table);
@@ -73,9 +72,7 @@ fn tell_copy(t: Tidied, room: &[u8; Limits::TEXT], page: &mut [u8; COPY]) -> Sai
 
 // A tidy copy of a text, or the line of its refusal.
 pub fn copy(text: &[u8], page: &mut [u8; COPY]) -> Said
-    ghost sizes: { Sizes }
-    requires* { do ⌜ record { word = (← ⟦Limits::WORD⟧); string = (← ⟦Limits::STRING⟧); literal = (← ⟦Limits::LITERAL⟧) } ≡ sizes ⌝ }
-    ensures* { do ⌜ Copies (record { text = (← (⟦Limits::TEXT⟧).entry); sizes = sizes; nesting = (← (⟦Limits::NESTING⟧).entry); declarations = (← (⟦Limits::DECLARATIONS⟧).entry); instructions = (← (⟦Limits::INSTRUCTIONS⟧).entry) }) text.entry.now result page.old page.new ⌝ }
+    ensures { Copies (record { text = Limits.TEXT; sizes = record { word = Limits.WORD; string = Limits.STRING; literal = Limits.LITERAL }; nesting = Limits.NESTING; declarations = Limits.DECLARATIONS; instructions = Limits.INSTRUCTIONS }) text.entry.now result page.old page.new }
 {
     let mut room = [0u8; Limits::TEXT];
     let t = tidy::tidy(text, &mut room);
@@ -90,8 +87,8 @@ pub fn station(
     page: &mut [u8; PAGE],
 ) -> Said
     ghost g: { Given }
-    requires* { do ⌜ record { sizes = record { word = (← ⟦Limits::WORD⟧); string = (← ⟦Limits::STRING⟧); literal = (← ⟦Limits::LITERAL⟧) }; budget = (← ⟦Station::BUDGET⟧) } ≡ g ⌝ }
-    ensures* { do ⌜ WithAnswer (Tabled (record { text = (← (⟦Limits::TEXT⟧).entry); sizes = g.sizes; nesting = (← (⟦Limits::NESTING⟧).entry); declarations = (← (⟦Limits::DECLARATIONS⟧).entry); instructions = (← (⟦Limits::INSTRUCTIONS⟧).entry) }) text.entry.now) (λ a. Tells said_of_run (came g.budget (length room.old) readings.now a) room.old result room.new page.old page.new [] []) ⌝ }
+    requires { record { sizes = record { word = Limits.WORD; string = Limits.STRING; literal = Limits.LITERAL }; budget = Station.BUDGET } ≡ g }
+    ensures { WithAnswer (Tabled (record { text = Limits.TEXT; sizes = g.sizes; nesting = Limits.NESTING; declarations = Limits.DECLARATIONS; instructions = Limits.INSTRUCTIONS }) text.entry.now) (λ a. Tells said_of_run (came g.budget (length room.old) readings.now a) room.old result room.new page.old page.new [] []) }
 {
     let c = lesson(text, readings, room);
     tells::tell(c, room, page)
@@ -106,8 +103,8 @@ pub fn feed(
     note: &mut [u8; LINE],
 ) -> Said
     ghost g: { Given }
-    requires* { do ⌜ record { sizes = record { word = (← ⟦Limits::WORD⟧); string = (← ⟦Limits::STRING⟧); literal = (← ⟦Limits::LITERAL⟧) }; budget = (← ⟦Station::BUDGET⟧) } ≡ g ⌝ }
-    ensures* { do ⌜ WithAnswer (Tabled (record { text = (← (⟦Limits::TEXT⟧).entry); sizes = g.sizes; nesting = (← (⟦Limits::NESTING⟧).entry); declarations = (← (⟦Limits::DECLARATIONS⟧).entry); instructions = (← (⟦Limits::INSTRUCTIONS⟧).entry) }) text.entry.now) (λ a. Tells sent (came g.budget (length room.old) readings.now a) room.old result room.new page.old page.new note.old note.new) ⌝ }
+    requires { record { sizes = record { word = Limits.WORD; string = Limits.STRING; literal = Limits.LITERAL }; budget = Station.BUDGET } ≡ g }
+    ensures { WithAnswer (Tabled (record { text = Limits.TEXT; sizes = g.sizes; nesting = Limits.NESTING; declarations = Limits.DECLARATIONS; instructions = Limits.INSTRUCTIONS }) text.entry.now) (λ a. Tells sent (came g.budget (length room.old) readings.now a) room.old result room.new page.old page.new note.old note.new) }
 {
     let c = lesson(text, readings, room);
     tells::send(c, room, page, note)

@@ -1,4 +1,5 @@
 // What the programs say of each case of standard input, from bytes to bytes. `stdin` says how a case is written.
+#![tactic(auto)]
 use libc::STDIN_FILENO;
 use limits::{Limits, Station};
 

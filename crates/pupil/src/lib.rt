@@ -1,4 +1,5 @@
 // What came of a text in plain words, for a pupil, into a page that is lent.
+#![tactic(auto)]
 ghost use Rattle.std.specs.Prelude.{◌≡◌, [], ◌+◌, ◌≤◌, length};
 ghost use Rattle.lines.specs.Added.{Added};
 ghost use Rattle.tells.specs.Writes.{Writes, with_output};
@@ -26,7 +27,7 @@ fn has_place(why: Refusal) -> bool
 
 // With line, column, and the line with a mark under the place.
 fn put_place(page: &mut [u8], text: &[u8], why: Refusal, place: usize) -> usize
-    ensures* { do ⌜ Added (at_place (record { whole = (← (⟦Window::WHOLE⟧).entry); last = (← (⟦Window::LAST⟧).entry); next = (← (⟦Window::NEXT⟧).entry); rest = (← (⟦Window::REST⟧).entry) }) text.now why place) page.old 0 page.new result ⌝ }
+    ensures { Added (at_place (record { whole = Window.WHOLE; last = Window.LAST; next = Window.NEXT; rest = Window.REST }) text.now why place) page.old 0 page.new result }
 {
     let number = base::number(why);
     let spot = place::spot_of(text, place);
@@ -40,7 +41,7 @@ fn put_place(page: &mut [u8], text: &[u8], why: Refusal, place: usize) -> usize
 }
 
 fn put_where(page: &mut [u8], text: &[u8], why: Refusal, place: usize) -> usize
-    ensures* { do ⌜ Added (shown_where (record { whole = (← (⟦Window::WHOLE⟧).entry); last = (← (⟦Window::LAST⟧).entry); next = (← (⟦Window::NEXT⟧).entry); rest = (← (⟦Window::REST⟧).entry) }) text.now why place) page.old 0 page.new result ⌝ }
+    ensures { Added (shown_where (record { whole = Window.WHOLE; last = Window.LAST; next = Window.NEXT; rest = Window.REST }) text.now why place) page.old 0 page.new result }
 {
     if has_place(why) {
         return put_place(page, text, why, place);
@@ -49,8 +50,8 @@ fn put_where(page: &mut [u8], text: &[u8], why: Refusal, place: usize) -> usize
 }
 
 fn put_refusal(page: &mut [u8], n: Numbers, text: &[u8], why: Refusal, place: usize) -> usize
-    ensures* fact { do ⌜ Added (shown_refusal (record { whole = (← (⟦Window::WHOLE⟧).entry); last = (← (⟦Window::LAST⟧).entry); next = (← (⟦Window::NEXT⟧).entry); rest = (← (⟦Window::REST⟧).entry) }) n text.now why place) page.old 0 page.new result ⌝ }
-    ensures* place_bound { do ⌜ length (shown_refusal (record { whole = (← (⟦Window::WHOLE⟧).entry); last = (← (⟦Window::LAST⟧).entry); next = (← (⟦Window::NEXT⟧).entry); rest = (← (⟦Window::REST⟧).entry) }) n text.now why place) ≤ 512 ⌝ }
+    ensures fact { Added (shown_refusal (record { whole = Window.WHOLE; last = Window.LAST; next = Window.NEXT; rest = Window.REST }) n text.now why place) page.old 0 page.new result }
+    ensures place_bound { length (shown_refusal (record { whole = Window.WHOLE; last = Window.LAST; next = Window.NEXT; rest = Window.REST }) n text.now why place) ≤ 512 }
 {
     let a = put_where(page, text, why, place);
     let b = words::put_why(page, a, n, text, why, place);
@@ -95,7 +96,7 @@ pub fn show(
     room: &[u8; Station::ROOM],
     page: &mut [u8; SHOWN],
 ) -> Said
-    ensures* { do ⌜ Writes (shown (record { whole = (← (⟦Window::WHOLE⟧).entry); last = (← (⟦Window::LAST⟧).entry); next = (← (⟦Window::NEXT⟧).entry); rest = (← (⟦Window::REST⟧).entry) }) n text.now (with_output c room.now)) result page.old page.new [] [] ⌝ }
+    ensures { Writes (shown (record { whole = Window.WHOLE; last = Window.LAST; next = Window.NEXT; rest = Window.REST }) n text.now (with_output c room.now)) result page.old page.new [] [] }
 {
     match c {
         Came::Refused(why, place) => Said {

@@ -1,10 +1,11 @@
 // What one word of an input reads as, byte by byte.
+#![tactic(auto)]
 ghost use Rattle.std.specs.Prelude.{◌≡◌, true};
 ghost use Rattle.reading.specs.Reading.{in_signed_range, signed, number_in_range};
 ghost use Rattle.reading.specs.inner.Words.{digit_more, word_more, as_reading};
 
 // What the bytes since the last separator are: none, a minus alone, a number with its sign and magnitude; or the readings are over.
-#[derive(Drop)]
+#[derive(Clone, Copy)]
 pub enum Phase {
     Between,
     Minus,
@@ -13,7 +14,7 @@ pub enum Phase {
 }
 
 // What a word reads as: a number, or none.
-#[derive(Drop)]
+#[derive(Clone, Copy)]
 pub enum Word {
     Reads(i32),
     Wrong,

@@ -1,4 +1,5 @@
 // The readings of an input that comes in chunks of any length.
+#![tactic(auto)]
 ghost use Rattle.std.specs.Prelude.{◌≡◌, List, [], ◌∷◌, ◌++◌, ℕ, ℤ};
 ghost use Rattle.reading.specs.Reading.{number_in_range};
 ghost use Rattle.readings.specs.inner.Rest.{takes, over};
@@ -8,7 +9,7 @@ ghost use Rattle.readings.specs.Taken.{taken_in};
 use reading::{Phase, Word, number_in_range, word_more};
 
 // Where the input stands, and how many readings are stored.
-#[derive(Drop)]
+#[derive(Clone, Copy)]
 pub struct Reader {
     pub phase: Phase,
     pub count: usize,

@@ -1,6 +1,7 @@
 // The readings of the inputs of standard input, a line for each: how many there are, and which; and when it is told that they are over.
 // A case is a label and two chunks of an input, and where there is more before them, how often and what. Between semicolons it is asked for its
 // readings, and between bars, after each of the two chunks, whether they are over.
+#![tactic(auto)]
 use libc::{STDIN_FILENO, STDOUT_FILENO};
 use readings::{Reader, finish, is_over, more, start};
 

@@ -1,4 +1,5 @@
 // What came of a text: what may be sent on to the feed, and what is reported in numbers.
+#![tactic(auto)]
 ghost use Rattle.std.specs.Prelude.{◌≡◌};
 ghost use Rattle.reports.specs.Reports.{sendable, answer_numbers, run_numbers, text_numbers};
 
@@ -7,7 +8,7 @@ use machine::Report;
 use tables::Answer;
 
 // What came of a text.
-#[derive(Drop)]
+#[derive(Clone, Copy)]
 pub enum Came {
     // It ran: ending, steps, readings used and output length.
     Ran(Report),

@@ -1,10 +1,11 @@
 // Printing into a room that is lent: all of it, or nothing where it does not fit.
+#![tactic(auto)]
 ghost use Rattle.std.specs.Prelude.{◌≡◌, ◌++◌, ◌+◌, ◌-◌, ◌≤◌, length, take, replicate};
 ghost use Rattle.std.proofs.Math.Seq.{paste};
 ghost use Rattle.rooms.specs.inner.Rooms.{said, Prints};
 
 // What became of a print: the place after it, or that it does not fit.
-#[derive(Drop)]
+#[derive(Clone, Copy)]
 pub enum Printed {
     UpTo(usize),
     DoesNotFit,

@@ -1,4 +1,5 @@
 // The scan of a whole text, which tests the limits of a lexeme: refusals 1, 2 and 3.
+#![tactic(auto)]
 ghost use Rattle.std.specs.Prelude.{◌≡◌, ◌-◌, ◌≤◌, ltb, length};
 ghost use Rattle.lexeme.specs.Lexemes.{lexemes};
 ghost use Rattle.lexeme.specs.inner.Coded.{scanned, large};
@@ -9,7 +10,7 @@ use limits::Limits;
 
 // Whether a text is too long: refusal 1.
 pub fn too_long(text: &[u8]) -> bool
-    ensures* { do ⌜ result ≡ ltb (← (⟦Limits::TEXT⟧).entry) (length text.now) ⌝ }
+    ensures { result ≡ ltb Limits.TEXT (length text.now) }
 {
     Limits::TEXT < text.len()
 }
@@ -17,7 +18,7 @@ pub fn too_long(text: &[u8]) -> bool
 // Whether a lexeme is too large: refusal 3.
 fn is_too_large(l: Lexeme) -> bool
     requires { l.place ≤ l.end }
-    ensures* { do ⌜ result ≡ large (record { word = (← (⟦Limits::WORD⟧).entry); string = (← (⟦Limits::STRING⟧).entry); literal = (← (⟦Limits::LITERAL⟧).entry) }) l.kind (l.end - l.place) ⌝ }
+    ensures { result ≡ large (record { word = Limits.WORD; string = Limits.STRING; literal = Limits.LITERAL }) l.kind (l.end - l.place) }
 {
     let n = l.end - l.place;
     let kind = l.kind;
@@ -32,7 +33,7 @@ fn is_too_large(l: Lexeme) -> bool
 
 // The end of a whole text, or its leftmost refusal of 2 and 3.
 pub fn scan(text: &[u8]) -> Found
-    ensures* { do ⌜ result ≡ scanned text.now (lexemes (record { word = (← (⟦Limits::WORD⟧).entry); string = (← (⟦Limits::STRING⟧).entry); literal = (← (⟦Limits::LITERAL⟧).entry) }) text.now) ⌝ }
+    ensures { result ≡ scanned text.now (lexemes (record { word = Limits.WORD; string = Limits.STRING; literal = Limits.LITERAL }) text.now) }
 {
     let mut at = 0;
     loop {

@@ -1,4 +1,5 @@
 // What came of the text file that its argument names, on the readings of standard input, in plain words.
+#![tactic(auto)]
 use desk::Lesson;
 use limits::{Limits, Station};
 

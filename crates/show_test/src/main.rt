@@ -1,5 +1,6 @@
 // What `show` says of texts: every refusal, with each of its reasons, and every ending that a text can have.
 // A case of standard input is a text, a bar and an input; those after `#` come after the texts that are refused as a whole.
+#![tactic(auto)]
 use libc::{STDIN_FILENO, STDOUT_FILENO};
 use limits::{Limits, Station};
 use tells::Said;

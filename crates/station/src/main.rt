@@ -1,4 +1,5 @@
 // Runs the text file that its argument names on the readings of standard input: the output, a line end, and how the run ended.
+#![tactic(auto)]
 use desk::Lesson;
 use limits::{Limits, Station};
 

@@ -1,4 +1,5 @@
 // The code table, written a pair at a time as far as it has room; a need; and what is answered of a text once its code is known.
+#![tactic(auto)]
 ghost use Rattle.std.specs.Prelude.{◌≡◌, [], ◌∷◌, ◌+◌, min, max, pos};
 ghost use Rattle.instruction.specs.Instructions.{halt, jump_if_false, encode};
 ghost use Rattle.tables.specs.inner.Tables.{put, operand_of, opening};
@@ -73,7 +74,7 @@ pub fn two_sided_need(left: usize, right: usize) -> usize
 // ---- the answer
 
 // What is reported of an accepted text.
-#[derive(Drop)]
+#[derive(Clone, Copy)]
 pub struct Counts {
     pub instructions: usize,
     pub cells: usize,
@@ -81,7 +82,7 @@ pub struct Counts {
     pub need: usize,
 }
 
-#[derive(Drop)]
+#[derive(Clone, Copy)]
 pub enum Answer {
     Accepted(Counts),
     // Why, and the place.
@@ -89,7 +90,7 @@ pub enum Answer {
 }
 
 // The leftmost refusal of 6 and 7 so far.
-#[derive(Drop)]
+#[derive(Clone, Copy)]
 pub enum NameFault {
     Nothing,
     Is(Refusal, usize),
@@ -97,7 +98,7 @@ pub enum NameFault {
 
 // What a whole Program comes to, whose Command's code ends at a place: a name's refusal, too much code, or its counts.
 pub fn settled(cells: usize, code: usize, need: usize, fault: NameFault) -> Answer
-    ensures* { do ⌜ result ≡ settled_by (← (⟦Limits::INSTRUCTIONS⟧).entry) cells code need fault ⌝ }
+    ensures { result ≡ settled_by Limits.INSTRUCTIONS cells code need fault }
 {
     if let NameFault::Is(why, place) = fault {
         return Answer::Refused(why, place);

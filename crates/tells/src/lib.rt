@@ -1,4 +1,5 @@
 // What is told of an answer and of what came of a text, into pages that are lent.
+#![tactic(auto)]
 ghost use Rattle.std.specs.Prelude.{◌≡◌, [], ◌*◌, take};
 ghost use Rattle.tells.specs.Tells.{status_of, said_of_answer, said_of_run, sent};
 ghost use Rattle.tells.specs.Writes.{Writes, with_output};
@@ -8,7 +9,7 @@ use reports::{Came, to_send};
 use tables::Answer;
 
 // How many bytes stand on the page for standard output and on the one for standard error, and the status.
-#[derive(Drop)]
+#[derive(Clone, Copy)]
 pub struct Said {
     pub out: usize,
     pub err: usize,

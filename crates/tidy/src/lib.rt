@@ -1,4 +1,5 @@
 // A tidy copy of a program: document 02, T-05.
+#![tactic(auto)]
 ghost use Rattle.std.specs.Prelude.{◌≡◌, ◌++◌, length};
 ghost use Rattle.limits.specs.Limits.{Sizes};
 ghost use Rattle.tidy.specs.Tidy.{Tidy, tidy_numbers};
@@ -13,7 +14,7 @@ use tables::Answer;
 // The number of the refusal that is of the copy and not of the text.
 pub const NO_ROOM: u8 = 15;
 
-#[derive(Drop)]
+#[derive(Clone, Copy)]
 pub enum Tidied {
     // The bytes of the tidy text.
     Copied(usize),
@@ -111,9 +112,7 @@ fn write(text: &[u8], room: &mut [u8]) -> Printed
 
 // The copy of a text: what stands past it in the room is not said.
 fn copy(text: &[u8], room: &mut [u8]) -> Tidied
-    ghost sizes: { Sizes }
-    requires* { do ⌜ record { word = (← ⟦Limits::WORD⟧); string = (← ⟦Limits::STRING⟧); literal = (← ⟦Limits::LITERAL⟧) } ≡ sizes ⌝ }
-    ensures* { do ⌜ CopiedSo (record { text = (← (⟦Limits::TEXT⟧).entry); sizes = sizes; nesting = (← (⟦Limits::NESTING⟧).entry); declarations = (← (⟦Limits::DECLARATIONS⟧).entry); instructions = (← (⟦Limits::INSTRUCTIONS⟧).entry) }) text.entry.now room.old result room.new ⌝ }
+    ensures { CopiedSo (record { text = Limits.TEXT; sizes = record { word = Limits.WORD; string = Limits.STRING; literal = Limits.LITERAL }; nesting = Limits.NESTING; declarations = Limits.DECLARATIONS; instructions = Limits.INSTRUCTIONS }) text.entry.now room.old result room.new }
 {
     let a = compiler::judge(text);
     match a {
@@ -141,9 +140,7 @@ fn copied_length(t: Tidied) -> usize
 
 // The text's lexemes with one space between, and zeros in the rest of the room.
 pub fn tidy(text: &[u8], room: &mut [u8]) -> Tidied
-    ghost sizes: { Sizes }
-    requires* { do ⌜ record { word = (← ⟦Limits::WORD⟧); string = (← ⟦Limits::STRING⟧); literal = (← ⟦Limits::LITERAL⟧) } ≡ sizes ⌝ }
-    ensures* { do ⌜ Tidy (record { text = (← (⟦Limits::TEXT⟧).entry); sizes = sizes; nesting = (← (⟦Limits::NESTING⟧).entry); declarations = (← (⟦Limits::DECLARATIONS⟧).entry); instructions = (← (⟦Limits::INSTRUCTIONS⟧).entry) }) text.entry.now (length room.old) result room.new ⌝ }
+    ensures { Tidy (record { text = Limits.TEXT; sizes = record { word = Limits.WORD; string = Limits.STRING; literal = Limits.LITERAL }; nesting = Limits.NESTING; declarations = Limits.DECLARATIONS; instructions = Limits.INSTRUCTIONS }) text.entry.now (length room.old) result room.new }
 {
     let t = copy(text, room);
     rooms::clear_from(room, copied_length(t));

@@ -1,4 +1,5 @@
 // Tidy copies of the texts of standard input, each with all that must hold of it. `stdin` says how a case is written.
+#![tactic(auto)]
 use libc::STDIN_FILENO;
 use limits::Limits;
 

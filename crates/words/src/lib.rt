@@ -1,4 +1,5 @@
 // The refusals and the endings in plain words, added to a page.
+#![tactic(auto)]
 ghost use Rattle.std.specs.Prelude.{◌≡◌, cond, ◌≤◌, length, get_or};
 ghost use Rattle.lines.specs.Added.{Added};
 ghost use Rattle.words.specs.Words.{no_lexeme, too_large, why_row, how_row, in_words, why, how};
@@ -7,7 +8,7 @@ use base::{Refusal, Such};
 use limits::{Limits, Station};
 
 // The numbers that the words name.
-#[derive(Drop)]
+#[derive(Clone, Copy)]
 pub struct Numbers {
     pub text: usize,
     pub word: usize,
@@ -22,9 +23,9 @@ pub struct Numbers {
 
 // The paper's.
 pub fn of_the_paper() -> Numbers
-    ensures* fact { do ⌜ (result.text ≡ (← (⟦Limits::TEXT⟧).entry)) × (result.nesting ≡ (← (⟦Limits::NESTING⟧).entry)) × (result.declarations ≡ (← (⟦Limits::DECLARATIONS⟧).entry)) × (result.instructions ≡ (← (⟦Limits::INSTRUCTIONS⟧).entry)) ⌝ }
-    ensures* fact_2 { do ⌜ (result.word ≡ (← (⟦Limits::WORD⟧).entry)) × (result.string ≡ (← (⟦Limits::STRING⟧).entry)) × (result.literal ≡ (← (⟦Limits::LITERAL⟧).entry)) ⌝ }
-    ensures* fact_3 { do ⌜ (result.budget ≡ (← (⟦Station::BUDGET⟧).entry)) × (result.room ≡ (← (⟦Station::ROOM⟧).entry)) ⌝ }
+    ensures fact { (result.text ≡ Limits.TEXT) × (result.nesting ≡ Limits.NESTING) × (result.declarations ≡ Limits.DECLARATIONS) × (result.instructions ≡ Limits.INSTRUCTIONS) }
+    ensures fact_2 { (result.word ≡ Limits.WORD) × (result.string ≡ Limits.STRING) × (result.literal ≡ Limits.LITERAL) }
+    ensures fact_3 { (result.budget ≡ Station.BUDGET) × (result.room ≡ Station.ROOM) }
 {
     Numbers {
         text: Limits::TEXT,
@@ -40,7 +41,7 @@ pub fn of_the_paper() -> Numbers
 }
 
 // A row of a table, and the number in the place of its sign.
-#[derive(Drop)]
+#[derive(Clone, Copy)]
 struct Row {
     line: usize,
     number: u64,

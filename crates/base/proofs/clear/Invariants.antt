@@ -1,0 +1,11 @@
+use mathlib.Core.Path.{◌≡◌}
+use Prim.Native.Nat.{◌≤◌, ◌-◌}
+use lib.ListN.{length, take, replicate}
+use lib.IntN.{pos}
+use Rattle.base.proofs.clear.Given as goal
+
+abbrev pub invariant-loop-i : goal.invariant-loop-i
+invariant-loop-i l = (length l.numbers ≡ length l.initial.numbers) × ((l.i ≤ length l.numbers) × (take l.i l.numbers ≡ replicate l.i (pos 0)))
+
+abbrev pub decreases-loop-i : goal.decreases-loop-i
+decreases-loop-i l = length l.initial.numbers - l.i
