@@ -38,7 +38,7 @@ in_range (suc n) low x p q =
     (eq-or-lt_of_le p)
 
 -- a byte that is no symbol
-pub symbol_none : {ys : List Symbol} (p b : ℕ) → Each (λ (y : Symbol). b ≡ y.byte → ⊥) ys → refused NoLexeme p ≡ symbol ys p b
+pub symbol_none : (p b : ℕ) {ys : List Symbol} → Each (λ (y : Symbol). b ≡ y.byte → ⊥) ys → refused NoLexeme p ≡ symbol ys p b
 unfolding symbol
 symbol_none p b nil = refl
 symbol_none p b (◌also◌ {a = y} {rest = ys} h hs) = symbol_none p b hs ∙ ap (λ (t : Bool). elim t [ true ↦ found p (fixed y.means) (p + 1) | false ↦ symbol ys p b ]) (sym (ne_eqb b y.byte h))

@@ -1,5 +1,6 @@
 // Lexemes: their kinds, and the keywords.
 #![tactic(auto)]
+
 ghost use Rattle.std.specs.Prelude.{◌≡◌, ℕ};
 ghost use Rattle.lexeme.specs.Lexemes.{keywords, capital_word};
 ghost use Rattle.lexeme.specs.inner.Coded.{kind_of, fixed_number};
