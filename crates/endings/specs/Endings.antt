@@ -16,8 +16,8 @@ no_reading_left = 3
 abbrev pub outside_range : ℕ
 outside_range = 4
 
-abbrev pub division-by-0 : ℕ
-division-by-0 = 5
+abbrev pub division_by_0 : ℕ
+division_by_0 = 5
 
 abbrev pub stack_full : ℕ
 stack_full = 6

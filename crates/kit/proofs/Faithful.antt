@@ -33,29 +33,29 @@ own limits text a x =
     subst (λ (y : Accepted). Fits text y.cells y.command) k.2 g.each
 
 module _ (limits : Limits) (text : List ℕ) (n : ℕ) (a : Accepted) (compiled : Compiled limits text n (given a)) where
-  module _ (readings : List ℤ) (room cells budget-given : ℕ) (enough : need_of a ≤ cells) where
+  module _ (readings : List ℤ) (room cells budget_given : ℕ) (enough : need_of a ≤ cells) where
     abbrev run_of : Report
-    run_of = whole_run (record { text = text; table = numbers (code_of_text a); readings = readings; cells = cells; room = room }) budget-given
+    run_of = whole_run (record { text = text; table = numbers (code_of_text a); readings = readings; cells = cells; room = room }) budget_given
 
     -- ending, output, readings used and steps are those worked out from the sentences alone
-    pub faithful : run_of ≡ worked_out readings room budget-given a
+    pub faithful : run_of ≡ worked_out readings room budget_given a
     unfolding code_of_text need_of worked_out
-    faithful = whole text readings room cells a.cells a.command budget-given (own limits text a (named compiled)) enough
+    faithful = whole text readings room cells a.cells a.command budget_given (own limits text a (named compiled)) enough
 
     pub never_bad_code : run_of.ending ≢ bad_code
     unfolding worked_out report
-    never_bad_code = rw faithful (never_bad readings room a.cells a.command budget-given).1
+    never_bad_code = rw faithful (never_bad readings room a.cells a.command budget_given).1
 
     pub never_stack_full : run_of.ending ≢ stack_full
     unfolding worked_out report
-    never_stack_full = rw faithful (never_bad readings room a.cells a.command budget-given).0
+    never_stack_full = rw faithful (never_bad readings room a.cells a.command budget_given).0
 
     -- by the budget exactly when the sentences cost more
-    pub spent_if_dearer : (run_of.ending ≡ budget_spent) ↔ CostsMoreThan readings room a.cells a.command budget-given
+    pub spent_if_dearer : (run_of.ending ≡ budget_spent) ↔ CostsMoreThan readings room a.cells a.command budget_given
     unfolding worked_out report
-    spent_if_dearer = rw faithful (budget readings room a.cells a.command budget-given)
+    spent_if_dearer = rw faithful (budget readings room a.cells a.command budget_given)
 
     -- where it ends by itself, its steps are the cost
     pub steps_are_the_cost : run_of.ending ≢ budget_spent → Costs readings room a.cells a.command run_of.steps
     unfolding worked_out report
-    steps_are_the_cost h = rw faithful (costs_used readings room a.cells a.command budget-given (rw faithful at h))
+    steps_are_the_cost h = rw faithful (costs_used readings room a.cells a.command budget_given (rw faithful at h))

@@ -6,7 +6,7 @@ use borrow.Author.Tests.{lt-ltb}
 use Rattle.base.specs.Answers.{given}
 use Rattle.lexeme.specs.Lexemes.{Name, Lexeme, lit, name, class, string, fixed, Placed, lexeme, Sizes, next, lexemes}
 use Rattle.lexeme.proofs.Places.{Written, next_fits}
-use Rattle.lexeme.proofs.Symbols.{Each as Each-of, nil, ◌also◌}
+use Rattle.lexeme.proofs.Symbols.{Each as EachOf, nil, ◌also◌}
 use Rattle.lexeme.proofs.Ahead.{lexemes_each}
 use Rattle.sentence.specs.Sentences.{Kind, Sen, command, spell, program, literal, variable, bracket, first, multiply, unsigned, signed, add, negated, compare, print, print_line, print_string, declare, input, assign, error, while, when, block, single, then}
 use Rattle.sentence.specs.Grammar.{Whole, whats}
@@ -38,7 +38,7 @@ module _ (text : List ℕ) where
     none : All []
     one : {l : Lexeme} {ls : List Lexeme} → Good l → All ls → All (l ∷ ls)
 
-  all_of : {ls : List Placed} → Each-of (λ (l : Placed). Good l.what) ls → All (whats ls)
+  all_of : {ls : List Placed} → EachOf (λ (l : Placed). Good l.what) ls → All (whats ls)
   unfolding whats
   all_of nil = none
   all_of (h also hs) = one h (all_of hs)

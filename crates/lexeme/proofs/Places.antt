@@ -68,7 +68,7 @@ pub here_cases : (text : List ℕ) (p : ℕ) (P : Answer Next → Type 0)
     → (p < length text → get_or text p 0 ≡ 58 → P (colon p (drop (p + 1) text)))
     → (p < length text → P (symbol symbols p (get_or text p 0)))
     → P (here p (drop p text))
-here_cases text p P none a_word quote a-colon byte = by (ltb p (length text)) (letter_or_digit (get_or text p 0)) refl refl
+here_cases text p P none a_word quote a_colon byte = by (ltb p (length text)) (letter_or_digit (get_or text p 0)) refl refl
   where
     b : ℕ
     b = get_or text p 0
@@ -80,7 +80,7 @@ here_cases text p P none a_word quote a-colon byte = by (ltb p (length text)) (l
         let h : p < length text = ltb-true p (length text) within in
         rw (here_other text p h l)
         (by_test P (eqb b 34) (λ t. quote h (eqb-true b 34 t))
-        (λ _. by_test P (eqb b 58) (λ t. a-colon h (eqb-true b 58 t))
+        (λ _. by_test P (eqb b 58) (λ t. a_colon h (eqb-true b 58 t))
         (λ _. byte h)))
 
 -- of a capital word: a keyword, or a class name, which is one at any place

@@ -30,16 +30,16 @@ module _ (text : List ℕ) (p e : ℕ) where
   unfolding word
   name_alone run_ends b = rw (begun small (λ c h. letter_is c (small_is c h)) b, b, run_ends) refl
 
-  module _ (run_ends : e ≡ p + length (run letter (drop p text))) (b : begins letter (drop p text) ≡ true) (not-small : begins small (drop p text) ≡ false) where
+  module _ (run_ends : e ≡ p + length (run letter (drop p text))) (b : begins letter (drop p text) ≡ true) (not_small : begins small (drop p text) ≡ false) where
     pub capital_alone : begins digit (drop e text) ≡ false → word p whole ≡ found p (capital_word keywords p (run letter (drop p text))) e
     unfolding word
     capital_alone n =
         let same = run_alone letter digit letter_or_digit letters_first (drop p text) (after_run letter digit run_ends n) in
-        rw (begun letter letter_is b, not-small, same, all_own letter (drop p text), run_ends) refl
+        rw (begun letter letter_is b, not_small, same, all_own letter (drop p text), run_ends) refl
 
     pub capital_mixed : begins digit (drop e text) ≡ true → word p whole ≡ refused NoLexeme p
     unfolding word
-    capital_mixed n = rw (begun letter letter_is b, not-small, run_mixed letter digit letter_or_digit letters_first (drop p text) (after_run letter digit run_ends n), run_begun letter digit letter_or_digit letters_first letter_apart (drop p text) b)
+    capital_mixed n = rw (begun letter letter_is b, not_small, run_mixed letter digit letter_or_digit letters_first (drop p text) (after_run letter digit run_ends n), run_begun letter digit letter_or_digit letters_first letter_apart (drop p text) b)
 
   module _ (run_ends : e ≡ p + length (run digit (drop p text))) (b : begins digit (drop p text) ≡ true) where
     no_name : begins small whole ≡ false

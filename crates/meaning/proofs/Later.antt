@@ -12,7 +12,7 @@ use lib.IntN.{ℤ, pos}
 use lib.Signed.{mag, quot_z}
 use Rattle.sentence.specs.Sentences as S
 use Rattle.sentence.specs.Sentences.{Kind, Sen, command, literal, variable, bracket, first, multiply, unsigned, signed, add, negated, compare, print, print_line, print_string, declare, input, assign, error, while, when, block, single, then}
-use Rattle.endings.specs.Endings.{normal, budget_spent, stack_full, bad_code, no_reading_left, print_does_not_fit, outside_range, division-by-0}
+use Rattle.endings.specs.Endings.{normal, budget_spent, stack_full, bad_code, no_reading_left, print_does_not_fit, outside_range, division_by_0}
 use Rattle.numbers.specs.Numbers.{TwoSidedOperation, plus, minus, times, divide, equals, smaller, greater, Result, value, ends, in_range, is_false, calculate, negation, decimal}
 use Rattle.rules.specs.Machine.{Outside, reading, one_used, printed}
 use Rattle.meaning.specs.Layout.{of_mul, of_sign, of_rel}
@@ -133,7 +133,7 @@ own_calculate minus a b = own_in_range _
 own_calculate times a b = own_in_range _
 own_calculate divide a b = by (is_false b)
   where
-    by : (x : Bool) → OwnResult (cond x (ends division-by-0) (in_range (quot_z a b)))
+    by : (x : Bool) → OwnResult (cond x (ends division_by_0) (in_range (quot_z a b)))
     by true = unfold OwnResult in omega arith
     by false = own_in_range _
 own_calculate equals a b = tt

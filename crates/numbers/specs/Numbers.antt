@@ -1,7 +1,7 @@
 -- Document 01, "How a run ends": signed 32-bit numbers, what the operators and relations give, and how a number is printed.
 use Rattle.std.specs.Prelude.{List, [], ◌∷◌, ◌++◌, Bool, true, false, cond, ◌&&◌, ℕ, zero, suc, ◌+◌, ◌/◌, ◌%◌, ltb, eqb, ℤ, pos, negsuc, ◌+ℤ◌, ◌-ℤ◌, ◌*ℤ◌}
 use Rattle.std.specs.Int.Signed.{mag, lt_z, le_z, quot_z}
-use Rattle.endings.specs.Endings.{outside_range, division-by-0}
+use Rattle.endings.specs.Endings.{outside_range, division_by_0}
 
 -- a value, or the ending in its place
 pub data Result : Type 0 where
@@ -30,7 +30,7 @@ unfoldable pub calculate : TwoSidedOperation → ℤ → ℤ → Result
 calculate plus a b = in_range (a +ℤ b)
 calculate minus a b = in_range (a -ℤ b)
 calculate times a b = in_range (a *ℤ b)
-calculate divide a b = cond (is_false b) (ends division-by-0) (in_range (quot_z a b))
+calculate divide a b = cond (is_false b) (ends division_by_0) (in_range (quot_z a b))
 calculate equals a b = value (truth (le_z a b && le_z b a))
 calculate smaller a b = value (truth (lt_z a b))
 calculate greater a b = value (truth (lt_z b a))

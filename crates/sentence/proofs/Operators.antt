@@ -19,16 +19,16 @@ use Rattle.sentence.proofs.Reader.{State, is, on, on_sign, on_mul, on_rel, is_si
 abbrev pub number_of : Lexeme → ℕ
 number_of l = fixed_number (kind_of l)
 
-no-255 : (w : Fixed) → false ≡ eqb 255 (code_of w)
+no_255 : (w : Fixed) → false ≡ eqb 255 (code_of w)
 unfolding code_of fixed_of fixed_in fixeds symbols keywords
-no-255 w = sym (ne_eqb 255 (code_of w) (λ e. let f = ap code_of (ap fixed_of e ∙ fixed_back w) in omega arith))
+no_255 w = sym (ne_eqb 255 (code_of w) (λ e. let f = ap code_of (ap fixed_of e ∙ fixed_back w) in omega arith))
 
 pub is_number : (w : Fixed) (l : Lexeme) → is w l ≡ eqb (number_of l) (code_of w)
 unfolding is kind_of fixed_number
-is_number w (lit n) = no-255 w
-is_number w (name x) = no-255 w
-is_number w (class x) = no-255 w
-is_number w (string q) = no-255 w
+is_number w (lit n) = no_255 w
+is_number w (name x) = no_255 w
+is_number w (class x) = no_255 w
+is_number w (string q) = no_255 w
 is_number w (fixed v) = refl
 
 pub is_fixed : (w : Fixed) (l : Lexeme) → is w l ≡ true → l ≡ fixed w

@@ -43,7 +43,7 @@ module _ (limits : Limits) (text room : List ℕ) where
   unfolding tidied bytes copied_length
   by_refusal w {why} {p} is = record { answer = refused why p; is_given = (refusal w (λ a s. s) is).0; so = record { answer = refl; stands = refl; long = refl } }
 
-module _ (limits : Limits) (text room : List ℕ) (most : ℕ) (is-most : most ≡ min (length room) limits.text) where
+module _ (limits : Limits) (text room : List ℕ) (most : ℕ) (is_most : most ≡ min (length room) limits.text) where
   fits : length (tidy_of limits.sizes text) ≤ most → longer limits text (length room) ≡ false
   unfolding longer
   fits h = rw (le-ltb (length room) (length (tidy_of limits.sizes text)) (omega arith), le-ltb limits.text (length (tidy_of limits.sizes text)) (omega arith))

@@ -137,8 +137,8 @@ module _ (text before : List ℕ) (all : List Placed) where
       pub ended : Ends l → Puts (tidy_text all) before 0 (UpTo n) room
       ended ends =
           let none : to_come n (words c.ls) ≡ [] = rw (nothing_more text ahead ends) (come_out n) in
-          let all-of-it : c.done ≡ tidy_text all = sym (append-nil c.done) ∙ rw (← none) c.rest in
-          rw (← all-of-it) c.puts
+          let all_of_it : c.done ≡ tidy_text all = sym (append-nil c.done) ∙ rw (← none) c.rest in
+          rw (← all_of_it) c.puts
 
       module _ (within : at ≤ length text) (goes_on : Ends l → ⊥) where
         o : Onward text l c.ls
