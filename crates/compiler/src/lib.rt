@@ -7,7 +7,6 @@ mod operator;
 mod walk;
 
 ghost use Rattle.std.specs.Prelude.{◌≡◌, ◌≤◌, length};
-ghost use Rattle.limits.specs.Limits.{Sizes};
 ghost use Rattle.compiler.specs.Answers.{answered, Compiles};
 ghost use Rattle.compiler.specs.Compiled.{Judged, Compiled, WithAnswer};
 ghost use Rattle.compiler.specs.inner.Measured.{Measured, Written};
@@ -64,7 +63,7 @@ fn measured(text: &[u8], names: &mut [usize; NAMES]) -> Answer
     }
 }
 
-// A text's answer, whatever table there is, over a lent list. The ghost value is the limits of a lexeme: with them and the four others one clause names all seven.
+// A text's answer, whatever table there is, over a lent list.
 fn judged(text: &[u8], names: &mut [usize; NAMES]) -> Answer
     ensures { WithAnswer (Judged (record { text = Limits.TEXT; sizes = record { word = Limits.WORD; string = Limits.STRING; literal = Limits.LITERAL }; nesting = Limits.NESTING; declarations = Limits.DECLARATIONS; instructions = Limits.INSTRUCTIONS }) text.entry.now) (λ a. result ≡ answered a) }
 {

@@ -3,7 +3,6 @@
 ghost use Rattle.std.specs.Prelude.{◌≡◌, length};
 ghost use Rattle.rules.specs.Machine.{whole_run};
 ghost use Rattle.machine.specs.Promise.{lends};
-ghost use Rattle.limits.specs.Limits.{Sizes};
 ghost use Rattle.compiler.specs.Compiled.{Compiled, WithAnswer};
 ghost use Rattle.export.specs.Reports.{RanInto, CompiledInto, RanTextInto, TidyInto};
 

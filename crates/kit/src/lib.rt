@@ -1,7 +1,6 @@
 // What users call: a text compiled and run.
 #![tactic(auto)]
 ghost use Rattle.std.specs.Prelude.{◌≡◌, length};
-ghost use Rattle.limits.specs.Limits.{Sizes};
 ghost use Rattle.compiler.specs.Compiled.{Compiled, WithAnswer};
 ghost use Rattle.kit.specs.Kit.{OutcomeOf};
 

@@ -1,6 +1,6 @@
 -- What the code promises of the room that it is lent, and of what it says of a run and of a copy.
 use Rattle.std.specs.Prelude.{◌≡◌, List, [], ℕ}
-use Rattle.limits.specs.Limits.{Limits, Sizes}
+use Rattle.limits.specs.Limits.{Limits}
 use Rattle.base.specs.declared.Refusal.{Refusal}
 use Rattle.base.specs.Answers.{Answer, given, refused}
 use Rattle.rules.specs.Machine.{Report, room_after}
@@ -13,11 +13,6 @@ use Rattle.tells.specs.Tells as T
 use Rattle.tells.specs.Writes.{Writes}
 use Rattle.tells.specs.declared.Said.{Said}
 use Rattle.programs.specs.Programs.{copied}
-
--- the limits of a lexeme, and the steps of a run: what a contract that reads four numbers at once reads first
-pub record Given : Type 0 where
-  pub sizes : Sizes
-  pub budget : ℕ
 
 -- what came of a text, and the room after its run
 pub data Comes (room : List ℕ) : Answer Report → Came → List ℕ → Type 0 where

@@ -1,12 +1,11 @@
 // The programs, from the bytes that they read: what comes of a text, and what each says of it. They only read, call one of these and write.
 #![tactic(auto)]
-ghost use Rattle.std.specs.Prelude.{◌≡◌, [], length};
-ghost use Rattle.limits.specs.Limits.{Sizes};
+ghost use Rattle.std.specs.Prelude.{[], length};
 ghost use Rattle.compiler.specs.Compiled.{WithAnswer};
 ghost use Rattle.tells.specs.Tells.{said_of_run, sent};
 ghost use Rattle.tells.specs.Writes.{Writes};
 ghost use Rattle.programs.specs.Programs.{Tabled, came, listed};
-ghost use Rattle.programs.specs.Comes.{Given, Comes, Tells, Copies};
+ghost use Rattle.programs.specs.Comes.{Comes, Tells, Copies};
 ghost use Rattle.programs.specs.inner.Copies.{said_of_copy};
 
 use limits::{Limits, Station};
@@ -19,9 +18,7 @@ pub const COPY: usize = Limits::TEXT + LINE;
 
 // The text, run on readings. A table and a stack for the most instructions are enough for every accepted text.
 pub fn lesson(text: &[u8], readings: &[i32], room: &mut [u8; Station::ROOM]) -> Came
-    ghost g: { Given }
-    requires { record { sizes = record { word = Limits.WORD; string = Limits.STRING; literal = Limits.LITERAL }; budget = Station.BUDGET } ≡ g }
-    ensures { WithAnswer (Tabled (record { text = Limits.TEXT; sizes = g.sizes; nesting = Limits.NESTING; declarations = Limits.DECLARATIONS; instructions = Limits.INSTRUCTIONS }) text.entry.now) (λ a. Comes room.old (came g.budget (length room.old) readings.now a) result room.new) }
+    ensures { WithAnswer (Tabled (record { text = Limits.TEXT; sizes = record { word = Limits.WORD; string = Limits.STRING; literal = Limits.LITERAL }; nesting = Limits.NESTING; declarations = Limits.DECLARATIONS; instructions = Limits.INSTRUCTIONS }) text.entry.now) (λ a. Comes room.old (came Station.BUDGET (length room.old) readings.now a) result room.new) }
 {
     let mut table = [0i32; Limits::INSTRUCTIONS * 2];
     let mut stack = [0i32; Limits::INSTRUCTIONS];
@@ -86,9 +83,7 @@ pub fn station(
     room: &mut [u8; Station::ROOM],
     page: &mut [u8; PAGE],
 ) -> Said
-    ghost g: { Given }
-    requires { record { sizes = record { word = Limits.WORD; string = Limits.STRING; literal = Limits.LITERAL }; budget = Station.BUDGET } ≡ g }
-    ensures { WithAnswer (Tabled (record { text = Limits.TEXT; sizes = g.sizes; nesting = Limits.NESTING; declarations = Limits.DECLARATIONS; instructions = Limits.INSTRUCTIONS }) text.entry.now) (λ a. Tells said_of_run (came g.budget (length room.old) readings.now a) room.old result room.new page.old page.new [] []) }
+    ensures { WithAnswer (Tabled (record { text = Limits.TEXT; sizes = record { word = Limits.WORD; string = Limits.STRING; literal = Limits.LITERAL }; nesting = Limits.NESTING; declarations = Limits.DECLARATIONS; instructions = Limits.INSTRUCTIONS }) text.entry.now) (λ a. Tells said_of_run (came Station.BUDGET (length room.old) readings.now a) room.old result room.new page.old page.new [] []) }
 {
     let c = lesson(text, readings, room);
     tells::tell(c, room, page)
@@ -102,9 +97,7 @@ pub fn feed(
     page: &mut [u8; PAGE],
     note: &mut [u8; LINE],
 ) -> Said
-    ghost g: { Given }
-    requires { record { sizes = record { word = Limits.WORD; string = Limits.STRING; literal = Limits.LITERAL }; budget = Station.BUDGET } ≡ g }
-    ensures { WithAnswer (Tabled (record { text = Limits.TEXT; sizes = g.sizes; nesting = Limits.NESTING; declarations = Limits.DECLARATIONS; instructions = Limits.INSTRUCTIONS }) text.entry.now) (λ a. Tells sent (came g.budget (length room.old) readings.now a) room.old result room.new page.old page.new note.old note.new) }
+    ensures { WithAnswer (Tabled (record { text = Limits.TEXT; sizes = record { word = Limits.WORD; string = Limits.STRING; literal = Limits.LITERAL }; nesting = Limits.NESTING; declarations = Limits.DECLARATIONS; instructions = Limits.INSTRUCTIONS }) text.entry.now) (λ a. Tells sent (came Station.BUDGET (length room.old) readings.now a) room.old result room.new page.old page.new note.old note.new) }
 {
     let c = lesson(text, readings, room);
     tells::send(c, room, page, note)
