@@ -1,5 +1,6 @@
 // The bench examples: with the limits handed in from their one place, the definitions yield, by the machine and by the sentences, what documents 01, 02 and 001 say.
 #![tactic(auto)]
+
 ghost use Rattle.std.specs.Prelude.{◌≡◌, ◌++◌};
 ghost use Rattle.bench.specs.Examples.{EachYields, starred, bodies, slips, from_document_001};
 

@@ -1,5 +1,6 @@
 // What C and Rust call. A slice passes as a pointer and a length (include/o.h).
 #![tactic(auto)]
+
 ghost use Rattle.std.specs.Prelude.{◌≡◌, length};
 ghost use Rattle.rules.specs.Machine.{whole_run};
 ghost use Rattle.machine.specs.Promise.{lends};

@@ -1,5 +1,6 @@
 // What users call: a text compiled and run.
 #![tactic(auto)]
+
 ghost use Rattle.std.specs.Prelude.{◌≡◌, length};
 ghost use Rattle.compiler.specs.Compiled.{Compiled, WithAnswer};
 ghost use Rattle.kit.specs.Kit.{OutcomeOf};

@@ -1,5 +1,6 @@
 // The numbers of document 01, three of them as T-04 of document 02 set them. Each stands here and nowhere else: code and contracts read it from here.
 #![tactic(auto)]
+
 #[derive(Drop)]
 pub struct Limits {}
 

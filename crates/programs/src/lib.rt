@@ -1,5 +1,6 @@
 // The programs, from the bytes that they read: what comes of a text, and what each says of it. They only read, call one of these and write.
 #![tactic(auto)]
+
 ghost use Rattle.std.specs.Prelude.{[], length};
 ghost use Rattle.compiler.specs.Compiled.{WithAnswer};
 ghost use Rattle.tells.specs.Tells.{said_of_run, sent};

@@ -1,5 +1,6 @@
 // A tidy copy of a program: document 02, T-05.
 #![tactic(auto)]
+
 ghost use Rattle.std.specs.Prelude.{◌≡◌, ◌++◌, length};
 ghost use Rattle.tidy.specs.Tidy.{Tidy, tidy_numbers};
 ghost use Rattle.tidy.specs.inner.Copies.{without_zeros, copied, gap, Puts, Writes, CopiedSo, copied_length};
