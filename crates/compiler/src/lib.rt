@@ -1,5 +1,6 @@
 // The compiler: a text judged, and its code written into a lent table.
 #![tactic(auto)]
+
 mod command;
 mod expression;
 mod naming;

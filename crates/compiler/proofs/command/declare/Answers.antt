@@ -1,0 +1,32 @@
+-- `compiler::command::declare` meets its contract. Assumes nothing.
+use native.Mathlib.Omega.{arith}
+use mir.Facts.{to_z-of_z}
+use Rattle.compiler.specs.inner.Steps.{one_instruction}
+use Rattle.compiler.specs.inner.Walks.{Reads}
+use Rattle.compiler.proofs.Bodies.{not_name, name_given}
+use Rattle.compiler.proofs.Commands.{none_declared}
+use Rattle.compiler.proofs.Names.{declared_is}
+use Rattle.compiler.proofs.Replies.{code_fits}
+use Rattle.compiler.proofs.command.declare.Goals as goal
+
+pub returns-in_default : goal.returns-in_default
+unfolding Reads
+returns-in_default c = none_declared c.requires.stands _ (not_name c.in_default.in_default-own.keys2)
+
+pub emitted-x-requires : goal.emitted-x-requires
+emitted-x-requires c = code_fits c.requires
+
+pub overflow_cast-s : goal.overflow_cast-s
+overflow_cast-s c = rw c.counts-s.ensures (omega (arith, c.requires.sound.next_cell, c.requires.sound.declared, c.requires.sound.size))
+
+pub emitted-y-requires : goal.emitted-y-requires
+unfolding one_instruction
+emitted-y-requires c = rw c.emitted-x.ensures.0 (omega (arith, c.requires.code, c.requires.stands.order, c.requires.stands.within, c.requires.short))
+
+pub advance-requires : goal.advance-requires
+unfolding one_instruction
+advance-requires c = rw (c.declared.ensures.0, c.emitted-y.ensures.0, c.emitted-x.ensures.0, declared_is _ _) c.requires.stands.within
+
+pub returns : goal.returns
+unfolding one_instruction
+returns c = rw (c.declared.ensures.1, c.emitted-y.ensures.1, c.emitted-y.ensures.0, c.emitted-x.ensures.0, c.emitted-x.ensures.1, to_z-of_z (cast-emitted c.before.before.before.before.before.before.before), c.counts-s.ensures) (name_given c.requires _ c.in-Name.is _ (rw (c.declared.ensures.0, c.emitted-y.ensures.0, c.emitted-x.ensures.0) at c.advance.ensures))

@@ -1,0 +1,14 @@
+-- `compiler::write` meets its contract. Assumes nothing.
+use native.Mathlib.Omega.{arith}
+use Rattle.compiler.proofs.Decides.{set_out, written_within, not_written, written}
+use borrow.Author.Rules.{rules}
+use Rattle.compiler.proofs.write.Goals as goal
+
+pub program-r-requires : goal.program-r-requires
+program-r-requires c = set_out _ c.start.ensures (omega (arith, c.requires)) (omega (arith, c.requires)) (search rules) (search rules)
+
+pub returns-in_default : goal.returns-in_default
+returns-in_default c = written_within _ c.start.ensures _ (search rules) _ _ _ _ _ (not_written _ _ _ _ _ (program-requires c.before.before.before.before c.program-r.lifetimes) _ _ (rw c.put_cells.ensures at c.program-r.ensures) c.in_default.is)
+
+pub returns : goal.returns
+returns c = rw c.put_halt.ensures (written_within _ c.start.ensures _ (search rules) _ _ _ _ _ (written _ _ _ _ _ (program-requires c.before.before.before.before.before.before.before.before c.program-r.lifetimes) _ _ (rw c.put_cells.ensures at c.program-r.ensures) c.in-Done.is))
