@@ -6,18 +6,14 @@ use mathlib.Core.Logic.{inl, inr}
 use Prim.Native.Nat.{ℕ, suc, ◌+◌, ◌≤◌, ◌<◌, max}
 use native.Mathlib.Nat.{le_refl}
 use native.Mathlib.Omega.{arith}
-use denote.Enum.Declared.{tag_of}
-use types.Run.{OneOf, miss}
 use lib.IntN.{ℤ, pos}
 use lib.ListN.{length}
 use Rattle.base.specs.declared.Refusal.{Refusal}
 use Rattle.lexeme.specs.Lexemes.{Name, Fixed, next, becomes, ERROR, close_brace}
 use Rattle.lexeme.specs.inner.Coded.{code_of, coded, fixed_number, Stands}
-use Rattle.lexeme.specs.declared.Kind as code-kind
 use Rattle.lexeme.specs.declared.Kind.TheVariants as kind
 use Rattle.lexeme.specs.declared.Lexeme as code
 use Rattle.lexeme.specs.declared.Found.TheVariants as reply
-use Rattle.lexeme.specs.contracts.Kind.{the_type}
 use Rattle.lexeme.proofs.Places.{refused_goes}
 use Rattle.sentence.specs.Sentences.{Kind, Sen, expression, command, declare, input, assign, error, block, then}
 use Rattle.sentence.proofs.Reader.{Around, State, after_command}
@@ -36,21 +32,6 @@ use Rattle.compiler.proofs.Names.{noted_is, declared_is, lays_declare, lays_inpu
 use Rattle.compiler.proofs.Passes.{expression_way, condition_way, lost_first}
 use Rattle.compiler.proofs.Reading.{Way, Barred, Leads, Met}
 use Rattle.compiler.proofs.Replies.{Got, done, Said, said_got, handed_on, ready_past, counts_got}
-
--- ---- a lexeme of another kind
-
-abbrev not_named : List ℕ
-not_named = 0 ∷ 2 ∷ 3 ∷ 4 ∷ []
-
-abbrev not_quoted : List ℕ
-not_quoted = 0 ∷ 1 ∷ 2 ∷ 4 ∷ []
-
-module _ {k : code-kind.Kind} where
-  pub not_name : OneOf not_named (tag_of the_type k) → k ≡ kind.Name → ⊥
-  not_name t e = miss not_named 1 tt (subst (λ (x : code-kind.Kind). OneOf not_named (tag_of the_type x)) e t)
-
-  pub not_string : OneOf not_quoted (tag_of the_type k) → k ≡ kind.Str → ⊥
-  not_string t e = miss not_quoted 3 tt (subst (λ (x : code-kind.Kind). OneOf not_quoted (tag_of the_type x)) e t)
 
 -- ---- an advance that ends a construct
 

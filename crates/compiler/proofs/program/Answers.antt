@@ -2,15 +2,8 @@
 use Rattle.lexeme.specs.inner.Coded.{code_of}
 use native.Mathlib.Omega.{arith}
 use mathlib.Core.Path.{sym, ◌∙◌}
-use Rattle.compiler.proofs.Programs.{Begun, begun, not_lexed, first_within, not_begun, begun_ready, command_refused, not_ended, whole_read}
+use Rattle.compiler.proofs.Programs.{begun, not_lexed, first_within, not_begun, begun_ready, command_refused, not_ended, whole_read}
 use Rattle.compiler.proofs.program.Goals as goal
-use Rattle.compiler.proofs.program.Goals.{In-Done-b}
-
--- after DO
-
-begun_at : (c : In-Done-b) → Begun c.args.text.now c.args.names.now c.args.code c.in-Done-b.x
-unfolding code_of
-begun_at c = begun c.requires (rw c.start.ensures at c.advance-a.ensures) c.in-Done.is c.expect-b.ensures c.in-Done-b.is
 
 pub advance-a-requires : goal.advance-a-requires
 advance-a-requires c = rw c.start.ensures (omega arith)
@@ -26,15 +19,17 @@ unfolding code_of
 returns-in_default-b c = not_begun c.requires (rw c.start.ensures at c.advance-a.ensures) c.in-Done.is c.expect-b.ensures _ _ c.in_default-b.is
 
 pub command-r-requires : goal.command-r-requires
-command-r-requires c = begun_ready (begun_at c.before.before) _ (omega arith)
+unfolding code_of
+command-r-requires c = begun_ready (begun c.requires (rw c.start.ensures at c.advance-a.ensures) c.in-Done.is c.expect-b.ensures c.in-Done-b.is) _ (omega arith)
 
 pub returns-in_default-r : goal.returns-in_default-r
-returns-in_default-r c = command_refused (begun_at c.before.before.before.before.before.before.before.before) _ _ _ _ c.command-r.ensures c.in_default-r.is
+unfolding code_of
+returns-in_default-r c = command_refused (begun c.requires (rw c.start.ensures at c.advance-a.ensures) c.in-Done.is c.expect-b.ensures c.in-Done-b.is) _ _ _ _ c.command-r.ensures c.in_default-r.is
 
 pub returns-then-fixed_ahead-ne-END : goal.returns-then-fixed_ahead-ne-END
 unfolding code_of
-returns-then-fixed_ahead-ne-END c = not_ended (begun_at c.before.before.before.before.before.before.before.before.before.before.before.before) _ _ _ _ c.command-r.ensures c.in-Done-r.is (λ h. c.if-fixed_ahead-ne-END.true (c.fixed_ahead.ensures ∙ h))
+returns-then-fixed_ahead-ne-END c = not_ended (begun c.requires (rw c.start.ensures at c.advance-a.ensures) c.in-Done.is c.expect-b.ensures c.in-Done-b.is) _ _ _ _ c.command-r.ensures c.in-Done-r.is (λ h. c.if-fixed_ahead-ne-END.true (c.fixed_ahead.ensures ∙ h))
 
 pub returns : goal.returns
 unfolding code_of
-returns c = whole_read (begun_at c.before.before.before.before.before.before.before.before.before.before.before) _ _ _ _ c.command-r.ensures c.in-Done-r.is (sym c.fixed_ahead.ensures ∙ c.if-fixed_ahead-ne-END.false)
+returns c = whole_read (begun c.requires (rw c.start.ensures at c.advance-a.ensures) c.in-Done.is c.expect-b.ensures c.in-Done-b.is) _ _ _ _ c.command-r.ensures c.in-Done-r.is (sym c.fixed_ahead.ensures ∙ c.if-fixed_ahead-ne-END.false)

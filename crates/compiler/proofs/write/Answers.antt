@@ -8,7 +8,7 @@ pub program-r-requires : goal.program-r-requires
 program-r-requires c = set_out _ c.start.ensures (omega (arith, c.requires)) (omega (arith, c.requires)) (search rules) (search rules)
 
 pub returns-in_default : goal.returns-in_default
-returns-in_default c = written_within _ c.start.ensures _ (search rules) _ _ _ _ _ (not_written _ _ _ _ _ (program-requires c.before.before.before.before c.program-r.lifetimes) _ _ (rw c.put_cells.ensures at c.program-r.ensures) c.in_default.is)
+returns-in_default c = written_within _ c.start.ensures _ (search rules) _ _ _ _ _ (not_written _ _ _ _ _ (set_out _ c.start.ensures (omega (arith, c.requires)) (omega (arith, c.requires)) (search rules) (search rules)) _ _ (rw c.put_cells.ensures at c.program-r.ensures) c.in_default.is)
 
 pub returns : goal.returns
-returns c = rw c.put_halt.ensures (written_within _ c.start.ensures _ (search rules) _ _ _ _ _ (written _ _ _ _ _ (program-requires c.before.before.before.before.before.before.before.before c.program-r.lifetimes) _ _ (rw c.put_cells.ensures at c.program-r.ensures) c.in-Done.is))
+returns c = rw c.put_halt.ensures (written_within _ c.start.ensures _ (search rules) _ _ _ _ _ (written _ _ _ _ _ (set_out _ c.start.ensures (omega (arith, c.requires)) (omega (arith, c.requires)) (search rules) (search rules)) _ _ (rw c.put_cells.ensures at c.program-r.ensures) c.in-Done.is))

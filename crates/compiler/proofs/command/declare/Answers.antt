@@ -1,9 +1,12 @@
 -- `compiler::command::declare` meets its contract. Assumes nothing.
 use native.Mathlib.Omega.{arith}
+use mir.Syntax.{w32}
 use mir.Facts.{to_z-of_z}
+use lib.IntN.{pos}
+use Rattle.compiler.proofs.Stores.{count_fits}
 use Rattle.compiler.specs.inner.Steps.{one_instruction}
 use Rattle.compiler.specs.inner.Walks.{Reads}
-use Rattle.compiler.proofs.Bodies.{not_name, name_given}
+use Rattle.compiler.proofs.Bodies.{name_given}
 use Rattle.compiler.proofs.Commands.{none_declared}
 use Rattle.compiler.proofs.Names.{declared_is}
 use Rattle.compiler.proofs.Replies.{code_fits}
@@ -11,7 +14,7 @@ use Rattle.compiler.proofs.command.declare.Goals as goal
 
 pub returns-in_default : goal.returns-in_default
 unfolding Reads
-returns-in_default c = none_declared c.requires.stands _ (not_name c.in_default.in_default-own.keys2)
+returns-in_default c = none_declared c.requires.stands _ c.in_default.not-Name
 
 pub emitted-x-requires : goal.emitted-x-requires
 emitted-x-requires c = code_fits c.requires
@@ -25,8 +28,8 @@ emitted-y-requires c = rw c.emitted-x.ensures.0 (omega (arith, c.requires.code, 
 
 pub advance-requires : goal.advance-requires
 unfolding one_instruction
-advance-requires c = rw (c.declared.ensures.0, c.emitted-y.ensures.0, c.emitted-x.ensures.0, declared_is _ _) c.requires.stands.within
+advance-requires c = rw (c.declared.ensures.value, c.emitted-y.ensures.0, c.emitted-x.ensures.0, declared_is _ _) c.requires.stands.within
 
 pub returns : goal.returns
 unfolding one_instruction
-returns c = rw (c.declared.ensures.1, c.emitted-y.ensures.1, c.emitted-y.ensures.0, c.emitted-x.ensures.0, c.emitted-x.ensures.1, to_z-of_z (cast-emitted c.before.before.before.before.before.before.before), c.counts-s.ensures) (name_given c.requires _ c.in-Name.is _ (rw (c.declared.ensures.0, c.emitted-y.ensures.0, c.emitted-x.ensures.0) at c.advance.ensures))
+returns c = rw (c.declared.ensures.names_after, c.emitted-y.ensures.1, c.emitted-y.ensures.0, c.emitted-x.ensures.0, c.emitted-x.ensures.1, to_z-of_z {w = w32} {z = pos c.counts-s.result.next_cell} (count_fits (rw c.counts-s.ensures (omega (arith, c.requires.sound.next_cell, c.requires.sound.declared, c.requires.sound.size)))), c.counts-s.ensures) (name_given c.requires _ c.in-Name.is _ (rw (c.declared.ensures.value, c.emitted-y.ensures.0, c.emitted-x.ensures.0) at c.advance.ensures))

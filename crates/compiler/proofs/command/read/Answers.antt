@@ -2,14 +2,14 @@
 use native.Mathlib.Omega.{arith}
 use Rattle.compiler.specs.inner.Steps.{one_instruction}
 use Rattle.compiler.specs.inner.Walks.{Reads}
-use Rattle.compiler.proofs.Bodies.{not_name, name_stored}
+use Rattle.compiler.proofs.Bodies.{name_stored}
 use Rattle.compiler.proofs.Commands.{none_read}
 use Rattle.compiler.proofs.Names.{noted_is}
 use Rattle.compiler.proofs.command.read.Goals as goal
 
 pub returns-in_default : goal.returns-in_default
 unfolding Reads
-returns-in_default c = none_read c.requires.stands _ (not_name c.in_default.in_default-own.keys2)
+returns-in_default c = none_read c.requires.stands _ c.in_default.not-Name
 
 pub used-requires : goal.used-requires
 unfolding one_instruction

@@ -4,28 +4,32 @@ use mathlib.Core.Path.{◌≡◌, refl}
 use native.Mathlib.Omega.{arith}
 use mir.Facts.{to_z-of_z}
 use borrow.Author.Rules.{rules}
+use Rattle.compiler.specs.declared.walk.Walk.{Walk}
+use Rattle.compiler.specs.declared.walk.Gives.{Gives}
+use Rattle.compiler.specs.declared.walk.Read.{Read}
+use Rattle.compiler.specs.declared.walk.Read.TheVariants.{Done}
 use Rattle.compiler.specs.inner.Steps.{Fits, put_after, joined_walk}
 use Rattle.compiler.proofs.expression.joined.Goals as goal
-use Rattle.compiler.proofs.expression.joined.Goals.{After-two_sided_need-need, In-Done-2}
 
 -- there is room in the code's numbers
 
-fits : (c : In-Done-2) → (c.in-Done.w.code < 10000000) × (c.in-Done.g.need < 10000000)
+fits : {r : Read} {w : Walk} {g : Gives} → r ≡ Done w g → Fits r → (w.code < 10000000) × (g.need < 10000000)
 unfolding Fits
-fits c = rw c.in-Done.is at c.requires
-
--- neither side's need is the largest number
-
-both : (c : After-two_sided_need-need) → c.two_sided_need-need.result ≡ max c.args.left.need (1 + c.in-Done.g.need)
-both c = let f : c.args.left.need ≤ 18446744073709551615 = search rules in omega (arith, c.two_sided_need-need.ensures, (fits c.before.before).1)
+fits e f = rw e at f
 
 pub returns-in_default : goal.returns-in_default
 unfolding joined_walk put_after
-returns-in_default c = (rw c.in_default.is refl, rw c.in_default.is refl)
+returns-in_default c = record { value = rw c.in_default.is refl; table_after = rw c.in_default.is refl }
 
 pub emitted-requires : goal.emitted-requires
-emitted-requires c = (fits c.before.before.before.before).0
+emitted-requires c = (fits c.in-Done.is c.requires).0
 
 pub returns : goal.returns
 unfolding joined_walk put_after
-returns c = (rw (c.in-Done.is, c.emitted.ensures.0, both c.before.before.before.before) refl, rw (c.in-Done.is, c.emitted.ensures.1, to_z-of_z (record { sfits = c.operation.type_inv }), c.operation.ensures) refl)
+returns c =
+    let f : c.args.left.need ≤ 18446744073709551615 = search rules in
+    let both : c.two_sided_need-need.result ≡ max c.args.left.need (1 + c.in-Done.g.need) = omega (arith, c.two_sided_need-need.ensures, (fits c.in-Done.is c.requires).1) in
+    record {
+      value = rw (c.in-Done.is, c.emitted.ensures.0, both) refl;
+      table_after = rw (c.in-Done.is, c.emitted.ensures.1, to_z-of_z (record { sfits = c.operation.type_inv }), c.operation.ensures) refl;
+    }

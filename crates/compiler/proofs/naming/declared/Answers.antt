@@ -5,8 +5,8 @@ use Rattle.compiler.proofs.naming.declared.Goals as goal
 
 pub returns-then-declare : goal.returns-then-declare
 unfolding declared_walk
-returns-then-declare c = (rw (sym c.declare.ensures.0 ∙ c.if-declare.true), c.declare.ensures.1)
+returns-then-declare c = record { value = rw (sym c.declare.ensures.value ∙ c.if-declare.true); names_after = c.declare.ensures.names_after }
 
 pub returns : goal.returns
 unfolding declared_walk
-returns c = (rw (sym c.declare.ensures.0 ∙ c.if-declare.false) c.faulted.ensures, c.declare.ensures.1)
+returns c = record { value = rw (sym c.declare.ensures.value ∙ c.if-declare.false) c.faulted.ensures; names_after = c.declare.ensures.names_after }
