@@ -238,13 +238,13 @@ module _ {text names names' : List ℕ} {table table' : List ℤ} {w v : Walk} {
       (λ why p e. block_lost allow b.what b.passed n e) r a
 
 -- the rounds of its loop lead to the answer, whatever was read before the loop
-pub record More (text : List ℕ) (allow : ℕ) (names₀ : List ℕ) (table₀ : List ℤ) (so-far₀ : Read) (names : List ℕ) (table : List ℤ) (so_far : Read) : Type 0 where
+pub record More (text : List ℕ) (allow : ℕ) (names₀ : List ℕ) (table₀ : List ℤ) (so_far₀ : Read) (names : List ℕ) (table : List ℤ) (so_far : Read) : Type 0 where
   pub count_names : length names ≡ length names₀
   pub count_table : length table ≡ length table₀
-  pub on : (before : List ℕ) (before-table : List ℤ) (w : Walk) → Said block_so_far text before before-table w (suc allow) so-far₀ names₀ table₀ → Said block_so_far text before before-table w (suc allow) so_far names table
+  pub on : (before : List ℕ) (before_table : List ℤ) (w : Walk) → Said block_so_far text before before_table w (suc allow) so_far₀ names₀ table₀ → Said block_so_far text before before_table w (suc allow) so_far names table
 
 -- one round more
-pub more_on : {text names₀ names names₂ : List ℕ} {table₀ table table₂ : List ℤ} {allow : ℕ} {so-far₀ so_far : Read} {v y : Walk} {g h : Gives} → so_far ≡ Done v g → More text allow names₀ table₀ so-far₀ names table so_far → (fixed_number v.next.kind ≡ code_of close_brace → ⊥) →
-    Got command_way text names table v allow names₂ table₂ y h → length names₂ ≡ length names → length table₂ ≡ length table → More text allow names₀ table₀ so-far₀ names₂ table₂ (Done y (record { need = max g.need h.need }))
+pub more_on : {text names₀ names names₂ : List ℕ} {table₀ table table₂ : List ℤ} {allow : ℕ} {so_far₀ so_far : Read} {v y : Walk} {g h : Gives} → so_far ≡ Done v g → More text allow names₀ table₀ so_far₀ names table so_far → (fixed_number v.next.kind ≡ code_of close_brace → ⊥) →
+    Got command_way text names table v allow names₂ table₂ y h → length names₂ ≡ length names → length table₂ ≡ length table → More text allow names₀ table₀ so_far₀ names₂ table₂ (Done y (record { need = max g.need h.need }))
 unfolding Said
-more_on is m n q a b = record { count_names = a ∙ m.count_names; count_table = b ∙ m.count_table; on = λ before before-table w s. so_far_more (said_got block_so_far _ _ _ _ _ _ _ is (m.on before before-table w s)) n q }
+more_on is m n q a b = record { count_names = a ∙ m.count_names; count_table = b ∙ m.count_table; on = λ before before_table w s. so_far_more (said_got block_so_far _ _ _ _ _ _ _ is (m.on before before_table w s)) n q }

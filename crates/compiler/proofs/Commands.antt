@@ -127,8 +127,8 @@ module _ {text : List ℕ} {l m : code.Lexeme} (allow : ℕ) (c : Sen Name condi
       → {n : code.Lexeme} → Met text m n w
       → Leads text l n (suc allow) (command_from (λ a. want_condition (inner a))) allow command_way makes
   unfolding verdict
-  body_leads inner body makes w d d' to stops on-it met =
-      crosses p.stands body (omega (arith, p.later)) (comes_within inner (λ a. rw (d a) (omega arith)) (comes p)) (told_fixed p.stands w met.number) (going m met.number on-it) met.follows (λ a. rw (d' a) (omega arith)) to (λ a. rw (d' a) (omega arith)) stops
+  body_leads inner body makes w d d' to stops on_it met =
+      crosses p.stands body (omega (arith, p.later)) (comes_within inner (λ a. rw (d a) (omega arith)) (comes p)) (told_fixed p.stands w met.number) (going m met.number on_it) met.follows (λ a. rw (d' a) (omega arith)) to (λ a. rw (d' a) (omega arith)) stops
 
   pub guarded_leads : (again : Bool) {n : code.Lexeme} → Met text m n (before_body again) → Leads text l n (suc allow) (guarded_way again) allow command_way (guarded again c)
   unfolding depth after_condition after_command on is code_of want_guarded before_body guarded

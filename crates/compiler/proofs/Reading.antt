@@ -100,17 +100,17 @@ module _ {I : Type 0} {text : List ℕ} {limit : I → ℕ} where
   pub comes_stuck : {l m : code.Lexeme} {why : Refusal} {p : ℕ} {f g : I → Lexeme → State} → Comes text l m limit f g → Stuck text m limit g why p → Stuck text l limit f why p
   comes_stuck p q = record { same = λ ls a i. let c = p.same ls a in c.2 i ∙ q.same c.0 c.1 i }
 
-module _ {I J : Type 0} {text : List ℕ} {limit : I → ℕ} {limit' : J → ℕ} (inner : I → J) (same-limit : (i : I) → limit' (inner i) ≡ limit i) where
+module _ {I J : Type 0} {text : List ℕ} {limit : I → ℕ} {limit' : J → ℕ} (inner : I → J) (same_limit : (i : I) → limit' (inner i) ≡ limit i) where
   pub comes_within : {l m : code.Lexeme} {f g : J → Lexeme → State} → Comes text l m limit' f g → Comes text l m limit (λ i. f (inner i)) (λ i. g (inner i))
   comes_within {f} {g} p = record {
     same = λ ls a.
         let c = p.same ls a in
-        (c.0, c.1, λ i. subst (λ (n : ℕ). read_via n (f (inner i)) ls ≡ read_via n (g (inner i)) c.0) (same-limit i) (c.2 (inner i)));
+        (c.0, c.1, λ i. subst (λ (n : ℕ). read_via n (f (inner i)) ls ≡ read_via n (g (inner i)) c.0) (same_limit i) (c.2 (inner i)));
   }
 
   pub stuck_within : {l : code.Lexeme} {why : Refusal} {p : ℕ} {f : J → Lexeme → State} → Stuck text l limit' f why p → Stuck text l limit (λ i. f (inner i)) why p
   stuck_within {why} {p} {f} q = record {
-    same = λ ls a i. subst (λ (d : ℕ). read_via d (f (inner i)) ls ≡ refused why p) (same-limit i) (q.same ls a (inner i));
+    same = λ ls a i. subst (λ (d : ℕ). read_via d (f (inner i)) ls ≡ refused why p) (same_limit i) (q.same ls a (inner i));
   }
 
 module _ {I : Type 0} (text : List ℕ) (l : code.Lexeme) {limit : I → ℕ} (f : I → Lexeme → State) where
@@ -122,15 +122,15 @@ module _ {I : Type 0} (text : List ℕ) (l : code.Lexeme) {limit : I → ℕ} (f
 
   -- the lexeme leads to states that go on
   pub onward_number : {m : code.Lexeme} → (Ends l → ⊥) → Follows text l m → (t : I → State) → (Number l → (i : I) → f i (told text l) ≡ t i) → ((i : I) → Low (limit i) (verdict (t i))) → Comes text l m limit f (λ i. step (t i))
-  onward_number {m} on-it next t e low = record {
+  onward_number {m} on_it next t e low = record {
     same = λ ls a.
         let b = begins a in
-        let rest = b.more on-it m next.read in
+        let rest = b.more on_it m next.read in
         (b.rest, rest, λ i. ap (read_via (limit i) (f i)) b.split ∙ via_low (limit i) (placed text l) b.rest (f i) (t i) (e b.number i) (low i) ∙ from_via (limit i) (t i) rest);
   }
 
   pub onward : {m : code.Lexeme} → (Ends l → ⊥) → Follows text l m → (t : I → State) → ((i : I) → f i (told text l) ≡ t i) → ((i : I) → Low (limit i) (verdict (t i))) → Comes text l m limit f (λ i. step (t i))
-  onward on-it next t e low = onward_number on-it next t (λ _. e) low
+  onward on_it next t e low = onward_number on_it next t (λ _. e) low
 
   -- no Program begins so
   pub none : ((i : I) → f i (told text l) ≡ nowhere) → Stuck text l limit f NoProgram l.place
@@ -142,7 +142,7 @@ module _ {I : Type 0} (text : List ℕ) (l : code.Lexeme) {limit : I → ℕ} (f
 
   -- what follows is no lexeme: no lexemes are ahead
   pub lost : {why : Refusal} {p : ℕ} → (Ends l → ⊥) → reply.Refused why p ≡ coded (next text l.end) → Stuck text l limit f why p
-  lost on-it e = record { same = λ ls a i. absurd (not_ahead on-it _ _ e a) }
+  lost on_it e = record { same = λ ls a i. absurd (not_ahead on_it _ _ e a) }
 
 -- the end of a whole Program
 pub ended : {text : List ℕ} {l : code.Lexeme} (limit : ℕ) (f : Lexeme → State) (m : Sen Name command) → Ends l → f (told text l) ≡ whole m → (ls : List Placed) → Ahead text l ls → read_via limit f ls ≡ given m
@@ -202,12 +202,12 @@ module _ {k k' : Kind} {X X' : Type 0} {text : List ℕ} {l e : code.Lexeme} {al
       → Comes text l e (λ (a : Around k). depth a + allow) (λ a. step (way.start a)) (λ a. step (way'.start (inner a)))
       → ((x : X') → ◌≡◌ {A = Around k → Lexeme → State} (λ a. way'.stop x (inner a)) (way.stop (makes x)))
       → Leads text l e allow way allow' way' makes
-  leads near same-limit c stops = record {
+  leads near same_limit c stops = record {
     passes = λ {m} x p.
         passes (omega (arith, p.later)) p.stands
         (subst (λ (f : Around k → Lexeme → State). Comes text l m (λ (a : Around k). depth a + allow) (λ a. step (way.start a)) f) (stops x)
-        (comes_on c (comes_within inner same-limit (comes p))));
-    refuses = λ why p q. refuses text l allow way.start why p (comes_stuck c (stuck_within inner same-limit (stuck text e allow' way'.start why p q)));
+        (comes_on c (comes_within inner same_limit (comes p))));
+    refuses = λ why p q. refuses text l allow way.start why p (comes_stuck c (stuck_within inner same_limit (stuck text e allow' way'.start why p q)));
   }
 
 -- the lexeme x stands between what was read and what is read next
@@ -219,8 +219,8 @@ pub crosses : {k k' : Kind} {X X' : Type 0} {text : List ℕ} {l x m : code.Lexe
     → ((a : Around k) → Low (depth a + allow) (verdict (way'.start (inner a))))
     → ((y : X') → ◌≡◌ {A = Around k → Lexeme → State} (λ a. way'.stop y (inner a)) (way.stop (makes y)))
     → Leads text l m allow way allow' way' makes
-crosses {text} {x} {way'} {stop} s inner near c e on-it next d t low stops =
-    leads inner (omega (arith, s.some on-it, next.later)) d (comes_on c (onward text x stop on-it next (λ a. way'.start (inner a)) (λ a. rw e (t a)) low)) stops
+crosses {text} {x} {way'} {stop} s inner near c e on_it next d t low stops =
+    leads inner (omega (arith, s.some on_it, next.later)) d (comes_on c (onward text x stop on_it next (λ a. way'.start (inner a)) (λ a. rw e (t a)) low)) stops
 
 -- a construct that begins with another, where nothing was read yet
 pub begins_with : {k k' : Kind} {X X' : Type 0} (text : List ℕ) (l : code.Lexeme) (allow : ℕ) (way : Way k X) (allow' : ℕ) (way' : Way k' X') (makes : X' → X) (inner : Around k → Around k')

@@ -140,12 +140,12 @@ module _ {text names : List ℕ} {w : Walk} {allow : ℕ} (a : Ready text names 
   pub ready_past : {v : Walk} (fewer : ℕ) → fewer ≤ allow → Past text w v → Ready text names v fewer
   ready_past {v} fewer f p = subst (λ (u : Walk). Ready text names u fewer) (sym p.moved) (ready_moved a v.next fewer f (omega (arith, a.stands.order, p.follows.later)) p.follows.stands)
 
-  module _ {k j : Kind} {way : Way k (Sen Name j)} {inside : ℕ} {names' : List ℕ} {table table' : List ℤ} {v : Walk} {g : Gives} (got-it : Got way text names table w inside names' table' v g) where
+  module _ {k j : Kind} {way : Way k (Sen Name j)} {inside : ℕ} {names' : List ℕ} {table table' : List ℤ} {v : Walk} {g : Gives} (got_it : Got way text names table w inside names' table' v g) where
     pub ready_got : Ready text names' v allow
-    ready_got = ready_after a got-it.laid got-it.passed.stands
+    ready_got = ready_after a got_it.laid got_it.passed.stands
 
     pub counts_got : (v.code < 10000000) × (g.need < 10000000)
-    counts_got = counts_fit a got-it.laid got-it.passed.stands
+    counts_got = counts_fit a got_it.laid got_it.passed.stands
 
   pub fits_read : {k : Kind} (way : Way k (Sen Name k)) (table : List ℤ) (inside : ℕ) (r : Read) (names' : List ℕ) (table' : List ℤ) → Reads k way.start way.stop text names table w inside r names' table' → Fits r
   unfolding Fits
@@ -212,9 +212,9 @@ module _ {A : Type 0} {k k' k'' : Kind} {sort : Sort A} {way : Way k (Sen Name k
 -- ---- the loop of a Term or an Expression
 
 -- the rounds so far lead to the answer, whatever was read before the loop
-pub record Rounds {k : Kind} (way : Way k (Sen Name k)) (text names : List ℕ) (table₀ : List ℤ) (allow : ℕ) (so-far₀ : Read) (table : List ℤ) (so_far : Read) : Type 0 where
+pub record Rounds {k : Kind} (way : Way k (Sen Name k)) (text names : List ℕ) (table₀ : List ℤ) (allow : ℕ) (so_far₀ : Read) (table : List ℤ) (so_far : Read) : Type 0 where
   pub count : length table ≡ length table₀
-  pub on : (before : List ℤ) (w : Walk) → Said way text names before w allow so-far₀ names table₀ → Said way text names before w allow so_far names table
+  pub on : (before : List ℤ) (w : Walk) → Said way text names before w allow so_far₀ names table₀ → Said way text names before w allow so_far names table
 
 pub length_after : (table : List ℤ) (r : Read) (numbers : List ℤ) → length (put_after table r numbers) ≡ length table
 unfolding put_after
@@ -222,8 +222,8 @@ length_after table (Done w g) numbers = length_put table w.code numbers
 length_after table (Refused why p) numbers = refl
 
 module _ {A : Type 0} {k k' : Kind} {sort : Sort A} {way : Way k (Sen Name k)} {way' : Way k' (Sen Name k')} {make : Sen Name k → A → Sen Name k' → Sen Name k} (j : Joins sort way way' way make)
-    {text names : List ℕ} {table₀ table₁ : List ℤ} {allow : ℕ} {so-far₀ so_far : Read} {left : Walk} {g : Gives} (is : so_far ≡ Done left g) (rounds : Rounds way text names table₀ allow so-far₀ table₁ so_far) {f : ℕ} (number : f ≡ fixed_number left.next.kind) (test : sort.test f ≡ true) where
+    {text names : List ℕ} {table₀ table₁ : List ℤ} {allow : ℕ} {so_far₀ so_far : Read} {left : Walk} {g : Gives} (is : so_far ≡ Done left g) (rounds : Rounds way text names table₀ allow so_far₀ table₁ so_far) {f : ℕ} (number : f ≡ fixed_number left.next.kind) (test : sort.test f ≡ true) where
   -- one round more
   pub round_on : {y : Walk} → Past text left y → (table₂ : List ℤ) (r : Read) → Reads k' way'.start way'.stop text names table₁ y allow r names table₂ → length table₂ ≡ length table₁ →
-      Rounds way text names table₀ allow so-far₀ (put_after table₂ r (operation_number f ∷ pos 0 ∷ [])) (joined_walk g r)
+      Rounds way text names table₀ allow so_far₀ (put_after table₂ r (operation_number f ∷ pos 0 ∷ [])) (joined_walk g r)
   round_on passed table₂ r right e = record { count = length_after table₂ r _ ∙ e ∙ rounds.count; on = λ before w s. right_said j (said_got way _ _ _ _ _ _ _ is (rounds.on before w s)) number test passed table₂ r right }

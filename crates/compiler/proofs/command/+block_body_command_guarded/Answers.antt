@@ -55,7 +55,7 @@ pub block-command-so_far-requires : goal.block-command-so_far-requires
 block-command-so_far-requires t c = (omega arith, rw c.open.ensures (ready_opened c.requires))
 
 pub block-loop-so_far-init : goal.block-loop-so_far-init
-block-loop-so_far-init t c = record { count_names = refl; count_table = refl; on = λ before before-table w s. s }
+block-loop-so_far-init t c = record { count_names = refl; count_table = refl; on = λ before before_table w s. s }
 
 pub block-returns-in_default : goal.block-returns-in_default
 block-returns-in_default t c = stopped block_way _ _ _ _ _ _ _ c.in_default.is (said_barred block_so_far _ _ _ _ _ _ _ c.in_default.is (block_said _ _ _ c.loop-so_far.invariant (rw c.open.ensures at c.command-so_far.ensures)))

@@ -12,7 +12,6 @@ use Rattle.compiler.specs.inner.Steps.{Fits, put_after, joined_walk}
 use Rattle.compiler.proofs.expression.joined.Goals as goal
 
 -- there is room in the code's numbers
-
 fits : {r : Read} {w : Walk} {g : Gives} → r ≡ Done w g → Fits r → (w.code < 10000000) × (g.need < 10000000)
 unfolding Fits
 fits e f = rw e at f

@@ -11,7 +11,6 @@ use Rattle.sentence.proofs.Reader.{is_rel}
 use Rattle.compiler.proofs.operator.is_rel.Goals as goal
 
 -- relations are three bytes in a row
-
 relations : (n : ℕ) → 60 ≤ n → n < 63 → true ≡ is_rel n
 unfolding is_rel code_of
 relations n l h = ⊎_elim (λ (e : 60 ≡ n). rw (← e)) (λ (a : 60 < n). ⊎_elim (λ (e : 61 ≡ n). rw (← e)) (λ (b : 61 < n). let e : n ≡ 62 = omega arith in rw e) (eq-or-lt_of_le a)) (eq-or-lt_of_le l)
