@@ -1,4 +1,4 @@
-/* The compiler and the machine of the language O, for C. The functions are proved; `rt staticlib export` writes the archive that has them. */
+/* The compiler and the machine of the language O, for C. The functions are proved; `rt lib` in crates/export writes the archive that has them. */
 #ifndef O_H
 #define O_H
 

@@ -135,5 +135,5 @@ fac0_code =
     ∷ [])
 
 -- and table 6.3, its 62 steps for the reading 3
-abbrev pub from-document-001 : List Example
-from-document-001 = record { text = bytes fac0; readings = with_reading 3; budget = 1000000; comes_to = runs fac0_code 2 4 (ends 0 62 1 "Please enter a natural number n: n! = 6") } ∷ []
+abbrev pub from_document_001 : List Example
+from_document_001 = record { text = bytes fac0; readings = with_reading 3; budget = 1000000; comes_to = runs fac0_code 2 4 (ends 0 62 1 "Please enter a natural number n: n! = 6") } ∷ []

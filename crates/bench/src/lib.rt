@@ -2,10 +2,10 @@
 #![tactic(auto)]
 ghost use Rattle.std.specs.Prelude.{◌≡◌, ◌++◌};
 ghost use Rattle.limits.specs.Limits.{Sizes};
-ghost use Rattle.bench.specs.Examples.{EachYields, starred, bodies, slips, from-document-001};
+ghost use Rattle.bench.specs.Examples.{EachYields, starred, bodies, slips, from_document_001};
 
 use limits::Limits;
 
 pub fn yield_as_expected()
-    ensures { EachYields (record { text = Limits.TEXT; sizes = record { word = Limits.WORD; string = Limits.STRING; literal = Limits.LITERAL }; nesting = Limits.NESTING; declarations = Limits.DECLARATIONS; instructions = Limits.INSTRUCTIONS }) (starred ++ (bodies ++ (slips ++ from-document-001))) }
+    ensures { EachYields (record { text = Limits.TEXT; sizes = record { word = Limits.WORD; string = Limits.STRING; literal = Limits.LITERAL }; nesting = Limits.NESTING; declarations = Limits.DECLARATIONS; instructions = Limits.INSTRUCTIONS }) (starred ++ (bodies ++ (slips ++ from_document_001))) }
 {}

@@ -88,7 +88,7 @@ pub fn judge(text: &[u8]) -> Answer
 
 // The code of a text that has so many cells.
 fn write(text: &[u8], names: &mut [usize; NAMES], table: &mut [i32], cells: usize)
-    requires { (length text.now ≤ Limits.TEXT × (cells ≤ Limits.INSTRUCTIONS }
+    requires { (length text.now ≤ Limits.TEXT) × (cells ≤ Limits.INSTRUCTIONS) }
     ensures { Written Limits.NESTING Limits.DECLARATIONS text.now cells table.old table.new }
 {
     scopes::start(names);

@@ -10,6 +10,6 @@ pub record Went (bytes : List ℕ) (r : Reader) (l : List ℤ) (e : Reader) (k :
   pub on : (rest : List ℕ) → takes e k rest ≡ takes r l (bytes ++ rest)
   pub unless : more ≡ ltb 0 (length bytes) && not (over e k)
 
-abbrev pub Goes_on : Chunk → Reader → List ℤ → List ℤ → Type 0
-Goes_on (Came e more) r l k = (bytes : List ℕ) × Went bytes r l e k more
-Goes_on Failed r l k = Unit {0}
+abbrev pub GoesOn : Chunk → Reader → List ℤ → List ℤ → Type 0
+GoesOn (Came e more) r l k = (bytes : List ℕ) × Went bytes r l e k more
+GoesOn (Failed why) r l k = Unit {0}

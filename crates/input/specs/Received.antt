@@ -7,4 +7,4 @@ use Rattle.input.specs.declared.Received.TheVariants.{Readings, Unreadable}
 -- the numbers l became k: they hold the readings of some input, which are counted, and what stood past them
 abbrev pub Receives : Received → List ℤ → List ℤ → Type 0
 Receives (Readings n) l k = (input : List ℕ) × (record { count = n; numbers = k } ≡ taken_in l input)
-Receives Unreadable l k = Unit {0}
+Receives (Unreadable why) l k = Unit {0}

@@ -5,4 +5,4 @@ use Rattle.input.specs.declared.Loaded.TheVariants.{Bytes, Unreadable}
 
 abbrev pub Within : Loaded → ℕ → Type 0
 Within (Bytes n) size = n ≤ size
-Within Unreadable size = Unit {0}
+Within (Unreadable why) size = Unit {0}

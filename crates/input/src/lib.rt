@@ -1,92 +1,97 @@
 // What the programs read: the text of a file, and the readings of an input.
 #![tactic(auto)]
+
 ghost use Rattle.std.specs.Prelude.{length};
-ghost use Rattle.input.specs.Chunks.{Goes_on};
+ghost use Rattle.input.specs.Chunks.{GoesOn};
 ghost use Rattle.input.specs.Received.{Receives};
 ghost use Rattle.input.specs.Within.{Within};
 
 use readings::Reader;
+use std::fs::File;
+use std::io::{Error, ErrorKind, Read};
+use std::rt::Files;
 
-#[derive(Clone, Copy)]
+// Bytes that one read may bring.
+const CHUNK: usize = 4096;
+
+// Why an input cannot be read is the system's reason.
+#[derive(Drop)]
 pub enum Loaded {
     Bytes(usize),
-    Unreadable,
+    Unreadable(Error),
 }
 
 // As much of an input as the buffer holds. A read that fails, also a later one, leaves no text.
-pub fn text_of(fd: i32, text: &mut [u8]) -> Loaded
+pub fn text_of<R: Read>(source: &mut R, text: &mut [u8]) -> Loaded
     ensures { Within result (length text.new) }
 {
     let mut end = 0;
     while end < text.len() {
-        let got = libc::read(fd, &mut text[end..]);
-        if got < 0 {
-            return Loaded::Unreadable;
+        match source.read(&mut text[end..]) {
+            Ok(0) => return Loaded::Bytes(end),
+            Ok(more) => end += more,
+            Err(why) => return Loaded::Unreadable(why),
         }
-        let more = io::count(got, &text[end..]);
-        if more == 0 {
-            return Loaded::Bytes(end);
-        }
-        end += more;
     }
     Loaded::Bytes(end)
 }
 
 // The same of the file of that name.
-pub fn text_file(path: &[u8], text: &mut [u8]) -> Loaded
+pub fn text_file<R: Files>(rt: &R, path: &[u8], text: &mut [u8]) -> Loaded
     ensures { Within result (length text.new) }
 {
-    let fd = os::open_read(path);
-    if fd < 0 {
-        return Loaded::Unreadable;
+    let Ok(name) = str::from_utf8(path) else {
+        return Loaded::Unreadable(Error::from(ErrorKind::InvalidInput));
+    };
+    match File::open(rt, name) {
+        Ok(mut file) => text_of(&mut file, text),
+        Err(why) => Loaded::Unreadable(why),
     }
-    let loaded = text_of(fd, text);
-    libc::close(fd);
-    loaded
 }
 
 // What one read leads to, and whether another may change anything.
-#[derive(Clone, Copy)]
+#[derive(Drop)]
 enum Chunk {
     Came(Reader, bool),
-    Failed,
+    Failed(Error),
 }
 
 // One read a turn: what a slow pipe has brought is taken at once.
-fn take_chunk(fd: i32, r: Reader, numbers: &mut [i32]) -> Chunk
-    ensures { Goes_on result r numbers.old numbers.new }
+fn take_chunk<R: Read>(source: &mut R, r: Reader, numbers: &mut [i32]) -> Chunk
+    ensures { GoesOn result r numbers.old numbers.new }
 {
-    let mut bytes = io::buffer();
-    let got = libc::read(fd, &mut bytes);
-    if got < 0 {
-        return Chunk::Failed;
+    let mut bytes = [0u8; CHUNK];
+    match source.read(&mut bytes) {
+        Ok(n) => {
+            let next = readings::more(r, &bytes[..n], numbers);
+            let more = 0 < n && !readings::is_over(next, numbers);
+            Chunk::Came(next, more)
+        }
+        Err(why) => Chunk::Failed(why),
     }
-    let n = io::count(got, &bytes);
-    let next = readings::more(r, &bytes[..n], numbers);
-    let more = 0 < n && !readings::is_over(next, numbers);
-    Chunk::Came(next, more)
 }
 
-#[derive(Clone, Copy)]
+#[derive(Drop)]
 pub enum Received {
     Readings(usize),
-    Unreadable,
+    Unreadable(Error),
 }
 
 // The readings of an input, read no further than they go. A proved loop has to end, so it counts its turns down from a number that no input uses up.
-pub fn readings_of(fd: i32, numbers: &mut [i32]) -> Received
+pub fn readings_of<R: Read>(source: &mut R, numbers: &mut [i32]) -> Received
     ensures { Receives result numbers.old numbers.new }
 {
     let mut reader = readings::start();
     let mut more = true;
     let mut turns = u64::MAX;
     while 0 < turns && more {
-        let chunk = take_chunk(fd, reader, numbers);
-        let Chunk::Came(next, on) = chunk else {
-            return Received::Unreadable;
-        };
-        reader = next;
-        more = on;
+        match take_chunk(source, reader, numbers) {
+            Chunk::Came(next, on) => {
+                reader = next;
+                more = on;
+            }
+            Chunk::Failed(why) => return Received::Unreadable(why),
+        }
         turns -= 1;
     }
     Received::Readings(readings::finish(reader, numbers))

@@ -1,8 +1,10 @@
 // Runs each lesson on its readings, and writes what came of it.
 #![tactic(auto)]
+
 use input::{Loaded, Received};
 use libc::STDOUT_FILENO;
 use limits::{Limits, Station};
+use std::process::ExitCode;
 
 fn run(text: &[u8], readings: &[i32]) {
     let mut room = [0u8; Station::ROOM];
@@ -30,7 +32,7 @@ fn lesson(name: &[u8], readings: &[u8]) {
     run(&text[..size], &numbers[..count]);
 }
 
-fn main() {
+fn main(rt: HostRuntime) -> ExitCode {
     lesson(b"bench_switch.o", b"bench_switch.readings");
     lesson(b"ice_bowl.o", b"ice_bowl.readings");
     lesson(b"countdown.o", b"countdown.readings");

@@ -1,4 +1,4 @@
--- The limits as the definitions take them. The numbers stand in src/lib.rt; a contract hands them in, as `⟦Limits::TEXT⟧`.
+-- The limits as the definitions take them. The numbers stand in src/lib.rt; a contract hands them in, as `Limits.TEXT`.
 use Rattle.std.specs.Prelude.{ℕ}
 
 -- those of a lexeme: refusal 3
