@@ -39,13 +39,13 @@ laid a (literal n) = laid_one _ tt
 laid a (variable k) = laid_one _ tt
 laid a (bracket e) = laid a e
 laid a (first f) = laid a f
-laid a (multiply t o f) = laid_append (laid a t) (laid_append (laid _ f) (laid_one _ tt) refl) (omega arith)
+laid a (multiply t o f) = laid_append (laid a t) (laid_append (laid (a + length (code a t)) f) (laid_one _ tt) refl) (omega arith)
 laid a (unsigned t) = laid a t
 laid a (signed plus t) = laid_append (laid a t) (record { long = refl; sound = unfold AllSound in tt }) refl
 laid a (signed minus t) = laid_append (laid a t) (laid_one _ tt) refl
-laid a (add e g t) = laid_append (laid a e) (laid_append (laid _ t) (laid_one _ tt) refl) (omega arith)
+laid a (add e g t) = laid_append (laid a e) (laid_append (laid (a + length (code a e)) t) (laid_one _ tt) refl) (omega arith)
 laid a (negated c) = laid_append (laid a c) (laid_one _ tt) refl
-laid a (compare d r e) = laid_append (laid a d) (laid_append (laid _ e) (laid_one _ tt) refl) (omega arith)
+laid a (compare d r e) = laid_append (laid a d) (laid_append (laid (a + length (code a d)) e) (laid_one _ tt) refl) (omega arith)
 laid a (print e) = laid_append (laid a e) (laid_one _ tt) refl
 laid a (print_line q) = laid_one _ tt
 laid a (print_string q) = laid_one _ tt
@@ -53,11 +53,11 @@ laid a (declare k) = laid_append (laid_one _ tt) (laid_one _ tt) refl
 laid a (input k) = laid_append (laid_one _ tt) (laid_one _ tt) refl
 laid a (assign k e) = laid_append (laid a e) (laid_one _ tt) refl
 laid a error = laid_one _ (lit< tt)
-laid a (while c m) = laid_append (laid a c) (laid_append (laid_one _ tt) (laid_append (laid _ m) (laid_one _ tt) refl) refl) (omega arith)
-laid a (when c m) = laid_append (laid a c) (laid_append (laid_one _ tt) (laid _ m) refl) (omega arith)
+laid a (while c m) = laid_append (laid a c) (laid_append (laid_one _ tt) (laid_append (laid (a + length (code a c) + 1) m) (laid_one _ tt) refl) refl) (omega arith)
+laid a (when c m) = laid_append (laid a c) (laid_append (laid_one _ tt) (laid (a + length (code a c) + 1) m) refl) (omega arith)
 laid a (block ms) = laid a ms
 laid a (single m) = laid a m
-laid a (then ms m) = laid_append (laid a ms) (laid _ m) refl
+laid a (then ms m) = laid_append (laid a ms) (laid (a + length (code a ms)) m) refl
 
 -- ---- the code of parts that stand behind others
 

@@ -9,7 +9,7 @@ use lib.ListN.{replicate, length-replicate}
 use Rattle.sentence.specs.Sentences.{Sen, command}
 use Rattle.endings.specs.Endings.{normal}
 use Rattle.instruction.specs.Instructions.{halt, push_int, numbers, effect}
-use Rattle.rules.specs.Machine.{Lent, untouched, fresh, pushed, pairs, names_well, does, run, End, end_of, report, whole_run}
+use Rattle.rules.specs.Machine.{Lent, untouched, fresh, pushed, pairs, names_well, does, tried, run, End, end_of, report, whole_run}
 use Rattle.rules.proofs.Tried.{works}
 use Rattle.rules.proofs.Pairs.{even, pairs_are, fetched_is}
 use Rattle.meaning.specs.Layout.{program_code, program_need}
@@ -48,8 +48,11 @@ module _ (lent : Lent) (d : ℕ) where
   -- the last unit is that of `Halt 0`
   closed : (a n : ℕ) (st : List ℤ) (s : Store) → Holds lent a (halt 0 ∷ []) → end_of (run lent n (at a st s.outside)) ≡ finish (unit n s) ends
   unfolding Holds
-  closed a n st s h = unit_step lent (halt 0) a n st s (give tt) ends h.0 (λ m l. unfold continue give finish in rw (halted lent 0 (suc a) st s.outside)) ∙ by n
+  closed a n st s h = unit_step lent (halt 0) a n st s (give tt) ends h.0 (λ m l. stopped m) ∙ by n
     where
+      stopped : (m : ℕ) → continue lent (tried lent (halt 0) (at (suc a) st s.outside)) m s.outside ≡ finish (give tt m s) ends
+      stopped m = unfold continue give finish in rw (halted lent 0 (suc a) st s.outside)
+
       by : (n : ℕ) → finish ((unit >> give tt) n s) ends ≡ finish (unit n s) ends
       by zero = unfold ◌>>◌ unit after end_with finish in refl
       by (suc n) = unfold ◌>>◌ unit after give finish in refl

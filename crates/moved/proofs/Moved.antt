@@ -65,14 +65,14 @@ module _ (g : Name → Name) (h : Quoted → Quoted) where
   unfolding spell moved moved_lexeme
   spell_moved (literal n) = refl
   spell_moved (variable x) = refl
-  spell_moved (bracket e) = rw (spell_moved e, map-append)
+  spell_moved (bracket e) = rw (spell_moved e, map-append moved_lexeme)
   spell_moved (first f) = spell_moved f
-  spell_moved (multiply t o f) = rw (spell_moved t, spell_moved f, map-append, moved_mul o)
+  spell_moved (multiply t o f) = rw (spell_moved t, spell_moved f, map-append moved_lexeme, moved_mul o)
   spell_moved (unsigned t) = spell_moved t
   spell_moved (signed s t) = rw (spell_moved t, moved_sign s)
-  spell_moved (add e s t) = rw (spell_moved e, spell_moved t, map-append, moved_sign s)
+  spell_moved (add e s t) = rw (spell_moved e, spell_moved t, map-append moved_lexeme, moved_sign s)
   spell_moved (negated c) = rw (spell_moved c)
-  spell_moved (compare d r e) = rw (spell_moved d, spell_moved e, map-append, moved_rel r)
+  spell_moved (compare d r e) = rw (spell_moved d, spell_moved e, map-append moved_lexeme, moved_rel r)
   spell_moved (print e) = rw (spell_moved e)
   spell_moved (print_line q) = refl
   spell_moved (print_string q) = refl
@@ -80,15 +80,15 @@ module _ (g : Name → Name) (h : Quoted → Quoted) where
   spell_moved (input x) = refl
   spell_moved (assign x e) = rw (spell_moved e)
   spell_moved error = refl
-  spell_moved (while c m) = rw (spell_moved c, spell_moved m, map-append)
-  spell_moved (when c m) = rw (spell_moved c, spell_moved m, map-append)
-  spell_moved (block ms) = rw (spell_moved ms, map-append)
+  spell_moved (while c m) = rw (spell_moved c, spell_moved m, map-append moved_lexeme)
+  spell_moved (when c m) = rw (spell_moved c, spell_moved m, map-append moved_lexeme)
+  spell_moved (block ms) = rw (spell_moved ms, map-append moved_lexeme)
   spell_moved (single m) = spell_moved m
-  spell_moved (then ms m) = rw (spell_moved ms, spell_moved m, map-append)
+  spell_moved (then ms m) = rw (spell_moved ms, spell_moved m, map-append moved_lexeme)
 
   pub whole_moved : (ls : List Lexeme) (m : Sen Name command) → Whole ls m → Whole (map moved_lexeme ls) (moved g h m)
   unfolding Whole program moved_lexeme
-  whole_moved ls m w = rw (spell_moved m, ← w, map-append)
+  whole_moved ls m w = rw (spell_moved m, ← w, map-append moved_lexeme)
 
   -- ---- how deep it is
 

@@ -1,6 +1,7 @@
 // How a scope is held: what is visible at a place of a text, and the cells of its names, in a list of numbers: five counts, and then four for each declaration: the place of its name, the place after it, its cell, and its block.
 // The counts of a scope.
 #![tactic(auto)]
+
 #[derive(Clone, Copy)]
 pub struct Scope {
     // The declarations still visible: so many of the list.

@@ -1,5 +1,6 @@
 // What a name's use, a declaration, and a scope's beginning and end do to the list that holds what is known.
 #![tactic(auto)]
+
 ghost use Rattle.std.specs.Prelude.{◌≡◌, [], ◌∷◌, true, false, ℕ, ◌+◌, ◌*◌, ◌<◌, ltb, get_or, set};
 ghost use Rattle.std.proofs.lemmas.List.Edits.{sets};
 ghost use Rattle.base.specs.Bytes.{same};

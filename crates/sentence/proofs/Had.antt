@@ -115,12 +115,24 @@ module _ {read : List Lexeme} {d : ℕ} where
 
   pub by_lit : (l : Lexeme) {f : ℕ → State} {t : State} → ((n : ℕ) → Good read d (f n) (lit n)) → Good read d t l → Good read d (on_lit l f t) l
   unfolding on_lit
-  by_lit l h = elim l [ lit n ↦ λ g. h n | name x ↦ λ g. g | class x ↦ λ g. g | string q ↦ λ g. g | fixed v ↦ λ g. g ]
+  by_lit (lit n) h = λ g. h n
+  by_lit (name x) h = λ g. g
+  by_lit (class x) h = λ g. g
+  by_lit (string q) h = λ g. g
+  by_lit (fixed v) h = λ g. g
 
   pub by_name : (l : Lexeme) {f : Name → State} {t : State} → ((x : Name) → Good read d (f x) (name x)) → Good read d t l → Good read d (on_name l f t) l
   unfolding on_name
-  by_name l h = elim l [ lit n ↦ λ g. g | name x ↦ λ g. h x | class x ↦ λ g. g | string q ↦ λ g. g | fixed v ↦ λ g. g ]
+  by_name (lit n) h = λ g. g
+  by_name (name x) h = λ g. h x
+  by_name (class x) h = λ g. g
+  by_name (string q) h = λ g. g
+  by_name (fixed v) h = λ g. g
 
   pub by_string : (l : Lexeme) {f : Quoted → State} {t : State} → ((q : Quoted) → Good read d (f q) (string q)) → Good read d t l → Good read d (on_string l f t) l
   unfolding on_string
-  by_string l h = elim l [ lit n ↦ λ g. g | name x ↦ λ g. g | class x ↦ λ g. g | string q ↦ λ g. h q | fixed v ↦ λ g. g ]
+  by_string (lit n) h = λ g. g
+  by_string (name x) h = λ g. g
+  by_string (class x) h = λ g. g
+  by_string (string q) h = λ g. h q
+  by_string (fixed v) h = λ g. g

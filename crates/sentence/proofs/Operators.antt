@@ -25,11 +25,19 @@ no-255 w = sym (ne_eqb 255 (code_of w) (λ e. let f = ap code_of (ap fixed_of e 
 
 pub is_number : (w : Fixed) (l : Lexeme) → is w l ≡ eqb (number_of l) (code_of w)
 unfolding is kind_of fixed_number
-is_number w l = elim l [ lit n ↦ no-255 w | name x ↦ no-255 w | class x ↦ no-255 w | string q ↦ no-255 w | fixed v ↦ refl ]
+is_number w (lit n) = no-255 w
+is_number w (name x) = no-255 w
+is_number w (class x) = no-255 w
+is_number w (string q) = no-255 w
+is_number w (fixed v) = refl
 
 pub is_fixed : (w : Fixed) (l : Lexeme) → is w l ≡ true → l ≡ fixed w
 unfolding is
-is_fixed w l = elim l [ lit n ↦ λ e. cc | name x ↦ λ e. cc | class x ↦ λ e. cc | string q ↦ λ e. cc | fixed v ↦ λ e. ap fixed (code_of_injective v w (eqb-true (code_of v) (code_of w) e)) ]
+is_fixed w (lit n) = λ e. cc
+is_fixed w (name x) = λ e. cc
+is_fixed w (class x) = λ e. cc
+is_fixed w (string q) = λ e. cc
+is_fixed w (fixed v) = λ e. ap fixed (code_of_injective v w (eqb-true (code_of v) (code_of w) e))
 
 pub numbered : (w : Fixed) (l : Lexeme) → number_of l ≡ code_of w → l ≡ fixed w
 numbered w l e = is_fixed w l (is_number w l ∙ eq-eqb (number_of l) (code_of w) e)
@@ -53,12 +61,14 @@ sign_of n h = elim (either n (code_of plus_sign) (eqb n (code_of minus_sign)) h)
 
 pub sign_numbered : (l : Lexeme) (g : Sign) → number_of l ≡ number_of (sign g) → l ≡ sign g
 unfolding sign kind_of fixed_number
-sign_numbered l g = elim g [ plus ↦ numbered plus_sign l | minus ↦ numbered minus_sign l ]
+sign_numbered l plus = numbered plus_sign l
+sign_numbered l minus = numbered minus_sign l
 
 module _ (such : Sign → State) (other : State) where
   pub on_a_sign : (g : Sign) → on_sign (sign g) such other ≡ such g
   unfolding sign on_sign on is code_of
-  on_a_sign g = elim g [ plus ↦ refl | minus ↦ refl ]
+  on_a_sign plus = refl
+  on_a_sign minus = refl
 
   pub on_no_sign : (l : Lexeme) → is_sign (number_of l) ≡ false → on_sign l such other ≡ other
   unfolding on_sign on is_sign
@@ -72,12 +82,14 @@ mul_of n h = elim (either n (code_of star) (eqb n (code_of slash)) h) [ inl e �
 
 pub mul_numbered : (l : Lexeme) (o : Mul) → number_of l ≡ number_of (mul o) → l ≡ mul o
 unfolding mul kind_of fixed_number
-mul_numbered l o = elim o [ times ↦ numbered star l | over ↦ numbered slash l ]
+mul_numbered l times = numbered star l
+mul_numbered l over = numbered slash l
 
 module _ (such : Mul → State) (other : State) where
   pub on_a_mul : (o : Mul) → on_mul (mul o) such other ≡ such o
   unfolding mul on_mul on is code_of
-  on_a_mul o = elim o [ times ↦ refl | over ↦ refl ]
+  on_a_mul times = refl
+  on_a_mul over = refl
 
   pub on_no_mul : (l : Lexeme) → is_mul (number_of l) ≡ false → on_mul l such other ≡ other
   unfolding on_mul on is_mul
@@ -94,12 +106,16 @@ rel_of n h = elim (either n (code_of less_sign) (eqb n (code_of greater_sign) ||
 
 pub rel_numbered : (l : Lexeme) (r : Rel) → number_of l ≡ number_of (rel r) → l ≡ rel r
 unfolding rel kind_of fixed_number
-rel_numbered l r = elim r [ less ↦ numbered less_sign l | greater ↦ numbered greater_sign l | equal ↦ numbered equals_sign l ]
+rel_numbered l less = numbered less_sign l
+rel_numbered l greater = numbered greater_sign l
+rel_numbered l equal = numbered equals_sign l
 
 module _ (such : Rel → State) (other : State) where
   pub on_a_rel : (r : Rel) → on_rel (rel r) such other ≡ such r
   unfolding rel on_rel on is code_of
-  on_a_rel r = elim r [ less ↦ refl | greater ↦ refl | equal ↦ refl ]
+  on_a_rel less = refl
+  on_a_rel greater = refl
+  on_a_rel equal = refl
 
   pub on_no_rel : (l : Lexeme) → is_rel (number_of l) ≡ false → on_rel l such other ≡ other
   unfolding on_rel on is_rel

@@ -114,28 +114,37 @@ begun (block ms) = by (fixed open_brace) _ refl refl refl refl
 -- a sign goes on no term; a relation goes on no term and no expression
 sign_no_mul : (g : Sign) → NoMul (sign g)
 unfolding sign is_mul kind_of fixed_number code_of
-sign_no_mul g = elim g [ plus ↦ refl | minus ↦ refl ]
+sign_no_mul plus = refl
+sign_no_mul minus = refl
 
 rel_no_mul : (r : Rel) → NoMul (rel r)
 unfolding rel is_mul kind_of fixed_number code_of
-rel_no_mul r = elim r [ less ↦ refl | greater ↦ refl | equal ↦ refl ]
+rel_no_mul less = refl
+rel_no_mul greater = refl
+rel_no_mul equal = refl
 
 rel_no_sign : (r : Rel) → NoSign (rel r)
 unfolding rel is_sign kind_of fixed_number code_of
-rel_no_sign r = elim r [ less ↦ refl | greater ↦ refl | equal ↦ refl ]
+rel_no_sign less = refl
+rel_no_sign greater = refl
+rel_no_sign equal = refl
 
 -- no operator closes a nesting
 closes_mul : (o : Mul) → closes (mul o) ≡ false
 unfolding mul closes is code_of
-closes_mul o = elim o [ times ↦ refl | over ↦ refl ]
+closes_mul times = refl
+closes_mul over = refl
 
 closes_sign : (g : Sign) → closes (sign g) ≡ false
 unfolding sign closes is code_of
-closes_sign g = elim g [ plus ↦ refl | minus ↦ refl ]
+closes_sign plus = refl
+closes_sign minus = refl
 
 closes_rel : (r : Rel) → closes (rel r) ≡ false
 unfolding rel closes is code_of
-closes_rel r = elim r [ less ↦ refl | greater ↦ refl | equal ↦ refl ]
+closes_rel less = refl
+closes_rel greater = refl
+closes_rel equal = refl
 
 reads : {k : Kind} (x : Sen Name k) → Reads k x
 unfolding Reads spell nestings depth walk went after nested_at closes verdict step at_factor at_expression at_condition at_command at_command_or_brace after_command after_condition whole_expression after_expression whole_term after_term got_factor on on_lit on_name on_string on_sign on_mul on_rel is is_mul is_sign kind_of fixed_number code_of
