@@ -1,5 +1,6 @@
 // What came of a text: what may be sent on to the feed, and what is reported in numbers.
 #![tactic(auto)]
+
 ghost use Rattle.std.specs.Prelude.{◌≡◌};
 ghost use Rattle.reports.specs.Reports.{sendable, answer_numbers, run_numbers, text_numbers};
 
