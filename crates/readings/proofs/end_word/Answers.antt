@@ -9,7 +9,6 @@ use Rattle.readings.specs.declared.Reader.{Reader}
 use Rattle.readings.proofs.end_word.Goals as goal
 
 -- the end of a word in a phase that stays
-
 stays : (r : Reader) (l : List ℤ) (q : Phase) → r.phase ≡ q → both q r.count l ≡ ended_at q r.count l → record { reader = r; numbers = l } ≡ ended (record { reader = r; numbers = l })
 unfolding ended
 stays r l q e same = rw (← e) at same
