@@ -1,5 +1,6 @@
 -- `lexer::next` meets its contract. Assumes nothing.
 use Prim.Native.Nat.{ℕ, ◌+◌, ◌<◌}
+use native.Mathlib.Omega.{arith}
 use mathlib.Core.List.{List}
 use mathlib.Core.Path.{◌≡◌, sym, ap, ◌∙◌}
 use mathlib.Core.Bool.{true, false}
@@ -60,4 +61,4 @@ returns-in-58 c = rw (at_other _ _ _ c.skip-p.ensures c.if-text-p.false (neither
 
 pub returns-in_default : goal.returns-in_default
 unfolding such
-returns-in_default c = rw (at_other _ _ _ c.skip-p.ensures c.if-text-p.false (neither_is _ (sym c.is_such-2.ensures ∙ c.if-is_such-2.false) (sym c.is_such-3.ensures ∙ c.if-is_such-3.false)), ne_eqb _ 34 c.in_default.in_default-own.rest.0.1, ne_eqb _ 58 c.in_default.in_default-own.rest.1) c.symbol_at.ensures
+returns-in_default c = rw (at_other _ _ _ c.skip-p.ensures c.if-text-p.false (neither_is _ (sym c.is_such-2.ensures ∙ c.if-is_such-2.false) (sym c.is_such-3.ensures ∙ c.if-is_such-3.false)), ne_eqb (get_or c.args.text.now c.skip-p.result 0) 34 (λ e. omega arith), ne_eqb (get_or c.args.text.now c.skip-p.result 0) 58 (λ e. omega arith)) c.symbol_at.ensures

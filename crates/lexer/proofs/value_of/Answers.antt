@@ -22,7 +22,7 @@ pub bounds-word-i : goal.bounds-word-i
 bounds-word-i c = omega arith
 
 pub overflow_add-value : goal.overflow_add-value
-overflow_add-value c = omega (arith, c.shared_slice_known-in-loop-i-1.given c.loop-i.i)
+overflow_add-value c = grind arith
 
 pub returns-then-value-gt4294967295 : goal.returns-then-value-gt4294967295
 returns-then-value-gt4294967295 c =

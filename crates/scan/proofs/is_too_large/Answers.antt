@@ -1,4 +1,4 @@
--- `lexer::is_too_large` meets its contract. Assumes nothing.
+-- `scan::is_too_large` meets its contract. Assumes nothing.
 use Rattle.lexeme.specs.inner.Coded.{large}
 use Rattle.scan.proofs.is_too_large.Goals as goal
 

@@ -1,4 +1,4 @@
--- `lexer::scan` meets its contract: the scan from `at` on is the whole scan. Assumes nothing.
+-- `scan::scan` meets its contract: the scan from `at` on is the whole scan. Assumes nothing.
 use Prim.Native.Nat.{ℕ, ◌<◌}
 use mathlib.Core.Path.{◌≡◌, sym, ap, ◌∙◌}
 use native.Mathlib.Omega.{arith}

@@ -1,4 +1,4 @@
--- `lexer::too_long` meets its contract. Assumes nothing.
+-- `scan::too_long` meets its contract. Assumes nothing.
 use mathlib.Core.Path.{refl}
 use Rattle.scan.proofs.too_long.Goals as goal
 
