@@ -1,4 +1,5 @@
 // The nineteen instructions: their numbers, and the instruction of each pair.
 #![tactic(auto)]
+
 pub mod decode;
 pub mod operations;

@@ -1,5 +1,6 @@
 // The reader of lexemes: the next one of a text, or refusal 2. It knows no limits.
 #![tactic(auto)]
+
 ghost use Rattle.std.specs.Prelude.{◌≡◌, true, false, ◌+◌, ◌-◌, ◌<◌, min, length, drop};
 ghost use Rattle.base.specs.Bytes.{separator, small, letter, digit, letter_or_digit, run, begins, value};
 ghost use Rattle.lexeme.specs.Lexemes.{word, string_at, symbols, symbol, colon, next};

@@ -2,6 +2,7 @@
 // Each tests for bad code, then for stack room, then for its own ending. None writes: a move names the cell to be set.
 // `live` is the live cells, as many as the depth, for those that read one; `cells` is how many the stack has, and `size` the table's length.
 #![tactic(auto)]
+
 ghost use Rattle.std.specs.Prelude.{◌≡◌, ◌+◌, ◌^◌, ◌<◌};
 ghost use Rattle.numbers.specs.inner.Coded.{as_result, as_two_sided};
 ghost use Rattle.moves.specs.inner.Moves.{moves_to, pushes, puts, push_int_move, load_stack_move, store_stack_move, jump_move, jump_if_false_move, two_sided_move, negate_move, not_move, read_move};

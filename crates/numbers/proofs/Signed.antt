@@ -18,7 +18,7 @@ use Rattle.numbers.specs.Numbers.{value, ends, in_range, is_false}
 
 -- a number of 32 bits, read back from its bits at 32 bits and then at 64
 pub back : {a : ℤ} → SFits w32 a → to_z w64 (of_z w64 (to_z w32 (of_z w32 a))) ≡ a
-back f = rw (to_z-of_z f) (to_z-of_z (sfits_widen tt f))
+back f = rw (to_z-of_z f) (to_z-of_z {w = w64} (sfits_widen tt f))
 
 -- the cast from 32 bits to 64
 pub widens : {a : ℤ} → SFits w32 a → SFits w64 (to_z w32 (of_z w32 a))

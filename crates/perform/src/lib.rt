@@ -1,5 +1,6 @@
 // What was decoded, done at the state past it.
 #![tactic(auto)]
+
 ghost use Rattle.std.specs.Prelude.{◌≡◌};
 ghost use Rattle.numbers.specs.inner.Coded.{as_two_sided};
 ghost use Rattle.moves.specs.inner.Moves.{two_sided_move};

@@ -1,5 +1,6 @@
 // Where a place of a text stands.
 #![tactic(auto)]
+
 ghost use Rattle.std.specs.Prelude.{◌≡◌, ◌≤◌, length};
 ghost use Rattle.base.specs.Bytes.{run};
 ghost use Rattle.place.specs.Places.{goes_on, count, within, line_start, spot};

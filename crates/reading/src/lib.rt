@@ -1,5 +1,6 @@
 // What one word of an input reads as, byte by byte.
 #![tactic(auto)]
+
 ghost use Rattle.std.specs.Prelude.{◌≡◌, true};
 ghost use Rattle.reading.specs.Reading.{in_signed_range, signed, number_in_range};
 ghost use Rattle.reading.specs.inner.Words.{digit_more, word_more, as_reading};

@@ -1,5 +1,6 @@
 // The readings of an input that comes in chunks of any length.
 #![tactic(auto)]
+
 ghost use Rattle.std.specs.Prelude.{◌≡◌, List, [], ◌∷◌, ◌++◌, ℕ, ℤ};
 ghost use Rattle.reading.specs.Reading.{number_in_range};
 ghost use Rattle.readings.specs.inner.Rest.{takes, over};

@@ -1,5 +1,6 @@
 // Printing into a room that is lent: all of it, or nothing where it does not fit.
 #![tactic(auto)]
+
 ghost use Rattle.std.specs.Prelude.{◌≡◌, ◌++◌, ◌+◌, ◌-◌, ◌≤◌, length, take, replicate};
 ghost use Rattle.std.proofs.Math.Seq.{paste};
 ghost use Rattle.rooms.specs.inner.Rooms.{said, Prints};

@@ -1,5 +1,6 @@
 // Rows one after the other, each ended by a mark.
 #![tactic(auto)]
+
 ghost use Rattle.std.specs.Prelude.{◌≡◌, ◌+◌, length, drop};
 ghost use Rattle.base.specs.Bytes.{run};
 ghost use Rattle.rows.specs.Rows.{no_mark, nth};

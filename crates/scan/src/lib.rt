@@ -1,5 +1,6 @@
 // The scan of a whole text, which tests the limits of a lexeme: refusals 1, 2 and 3.
 #![tactic(auto)]
+
 ghost use Rattle.std.specs.Prelude.{◌≡◌, ◌-◌, ◌≤◌, ltb, length};
 ghost use Rattle.lexeme.specs.Lexemes.{lexemes};
 ghost use Rattle.lexeme.specs.inner.Coded.{scanned, large};

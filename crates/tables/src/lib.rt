@@ -1,5 +1,6 @@
 // The code table, written a pair at a time as far as it has room; a need; and what is answered of a text once its code is known.
 #![tactic(auto)]
+
 ghost use Rattle.std.specs.Prelude.{◌≡◌, [], ◌∷◌, ◌+◌, min, max, pos};
 ghost use Rattle.instruction.specs.Instructions.{halt, jump_if_false, encode};
 ghost use Rattle.tables.specs.inner.Tables.{put, operand_of, opening};
