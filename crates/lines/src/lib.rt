@@ -1,5 +1,6 @@
 // Lines, added to a page that is lent. Each function answers the place after what it added; what the page has no room for is left out.
 #![tactic(auto)]
+
 ghost use Rattle.std.specs.Prelude.{◌≡◌, cond, [], ◌∷◌, eqb, pos, get_or};
 ghost use Rattle.numbers.specs.Numbers.{decimal};
 ghost use Rattle.lines.specs.Added.{Added};

@@ -1,5 +1,5 @@
 -- Document 01, "Refused texts" and "How a run ends", in plain words: what is wrong, and what to look for. Each sentence ends its row, and a sign stands in the place of a number.
-use Rattle.std.specs.Prelude.{List, [], ◌∷◌, ◌++◌, true, cond, ℕ, min, eqb, leb, length, get_or}
+use Rattle.std.specs.Prelude.{List, [], ◌∷◌, ◌++◌, cond, ℕ, min, eqb, leb, length, get_or}
 use Prim.Native.Char.{code}
 use Rattle.base.specs.Bytes.{bytes, letter_or_digit, digit}
 use Rattle.base.specs.declared.Refusal.{Refusal}

@@ -1,5 +1,6 @@
 // The refusals and the endings in plain words, added to a page.
 #![tactic(auto)]
+
 ghost use Rattle.std.specs.Prelude.{◌≡◌, cond, ◌≤◌, length, get_or};
 ghost use Rattle.lines.specs.Added.{Added};
 ghost use Rattle.words.specs.Words.{no_lexeme, too_large, why_row, how_row, in_words, why, how};
@@ -23,9 +24,9 @@ pub struct Numbers {
 
 // The paper's.
 pub fn of_the_paper() -> Numbers
-    ensures fact { (result.text ≡ Limits.TEXT) × (result.nesting ≡ Limits.NESTING) × (result.declarations ≡ Limits.DECLARATIONS) × (result.instructions ≡ Limits.INSTRUCTIONS) }
-    ensures fact_2 { (result.word ≡ Limits.WORD) × (result.string ≡ Limits.STRING) × (result.literal ≡ Limits.LITERAL) }
-    ensures fact_3 { (result.budget ≡ Station.BUDGET) × (result.room ≡ Station.ROOM) }
+    ensures text { (result.text ≡ Limits.TEXT) × (result.nesting ≡ Limits.NESTING) × (result.declarations ≡ Limits.DECLARATIONS) × (result.instructions ≡ Limits.INSTRUCTIONS) }
+    ensures lexemes { (result.word ≡ Limits.WORD) × (result.string ≡ Limits.STRING) × (result.literal ≡ Limits.LITERAL) }
+    ensures run { (result.budget ≡ Station.BUDGET) × (result.room ≡ Station.ROOM) }
 {
     Numbers {
         text: Limits::TEXT,
@@ -176,7 +177,7 @@ pub fn put_why(
     place: usize,
 ) -> usize
     ensures added { Added (why n text.now refusal place) page.old at page.new result }
-    ensures place_len_bound { length (why n text.now refusal place) ≤ 160 }
+    ensures short { length (why n text.now refusal place) ≤ 160 }
 {
     let row = why_row(n, text, refusal, place);
     put_row(
@@ -205,7 +206,7 @@ The program is too long: its code may have # instructions. Make it shorter.
 // How a run ended.
 pub fn put_how(page: &mut [u8], at: usize, n: Numbers, ending: u8) -> usize
     ensures added { Added (how n ending) page.old at page.new result }
-    ensures ending_len_bound { length (how n ending) ≤ 160 }
+    ensures short { length (how n ending) ≤ 160 }
 {
     let row = how_row(n, ending);
     put_row(

@@ -1,0 +1,17 @@
+-- `lines::put` meets its contract. The loop's invariant: with the bytes that are left, all are added. Assumes nothing.
+use native.Mathlib.Numerals.{add-one}
+use native.Mathlib.Omega.{arith}
+use borrow.Author.Rules.{rules}
+use lib.ListN.{drop_of_length-le}
+use lib.Seq.{drop-cons}
+use Rattle.lines.proofs.Adds.{leads_start, leads_on, leads_out, adds_within}
+use Rattle.lines.proofs.put.Goals as goal
+
+pub loop-i-init : goal.loop-i-init
+loop-i-init c = (leads_start _ _ _ _ c.smaller-next.ensures, omega (arith, c.smaller-next.ensures), search rules)
+
+pub loop-i-preserved : goal.loop-i-preserved
+loop-i-preserved c = (leads_on _ (rw (add-one c.loop-i.i) (drop-cons c.args.bytes.now c.loop-i.i 0 c.loop-i-test.true)) c.put_byte-next.ensures c.loop-i.invariant.0, adds_within c.put_byte-next.ensures, search rules)
+
+pub returns : goal.returns
+returns c = leads_out c.loop-i.invariant.1 (rw (drop_of_length-le c.args.bytes.now c.loop-i-test.false) at c.loop-i.invariant.0)

@@ -1,0 +1,24 @@
+-- `marks::shown_to` meets its contract. Assumes nothing.
+use mathlib.Core.Path.{sym}
+use native.Mathlib.Omega.{arith}
+use lib.Seq.{length-take-le}
+use Rattle.place.specs.inner.Kinds.{such}
+use Rattle.place.proofs.Places.{within_fits}
+use Rattle.marks.proofs.Shown.{to_is, to_fits}
+use Rattle.marks.proofs.shown_to.Goals as goal
+
+pub slice_bounds-others-count : goal.slice_bounds-others-count
+slice_bounds-others-count c = within_fits _ _ c.within-next.ensures
+
+pub slice_bounds-others-start : goal.slice_bounds-others-start
+slice_bounds-others-start c = within_fits _ _ c.within-next.ensures
+
+pub slice_bounds-run-end : goal.slice_bounds-run-end
+slice_bounds-run-end c = sym (length-take-le _ _ (within_fits _ _ c.within-rest.ensures))
+
+pub returns : goal.returns
+unfolding such
+returns c = to_is _ _ _ _ _ _ c.within-next.ensures c.within-rest.ensures c.run.ensures
+
+pub overflow_add-result : goal.overflow_add-result
+overflow_add-result c = let h = to_fits _ _ _ (returns c) in omega arith
