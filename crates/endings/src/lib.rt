@@ -1,5 +1,6 @@
 // How a run ends, by number. 0 and 1 are a Halt's own operands.
 #![tactic(auto)]
+
 pub const BUDGET_SPENT: u8 = 2;
 
 pub const NO_READING_LEFT: u8 = 3;

@@ -1,5 +1,6 @@
 // The machine: any code table, one numbered ending.
 #![tactic(auto)]
+
 ghost use Rattle.std.specs.Prelude.{◌≡◌};
 ghost use Rattle.rules.specs.Machine.{whole_run};
 ghost use Rattle.machine.specs.inner.Coded.{reports};
