@@ -1,6 +1,7 @@
 // For the test programs: cases one after the other, each ended by a mark, and the fields of a case likewise (crates/rows picks one).
 // In a file a case is a line, and some bytes stand for others that would not show.
 #![tactic(auto)]
+
 ghost use Rattle.std.specs.Prelude.{◌≡◌, map, ◌-◌, ◌≤◌};
 ghost use Rattle.lines.specs.Added.{Added};
 ghost use Rattle.cases.specs.Cases.{marks, meant, worth, times};
