@@ -1,16 +1,17 @@
 // The answer to a text, and what is left in its table.
-use libc::STDOUT_FILENO;
 use limits::Limits;
+use std::io;
+use std::io::Write;
 use tables::Answer;
 use tells::LISTING;
 
-pub fn say(bytes: &[u8]) {
-    io::write_all(STDOUT_FILENO, bytes);
+pub fn say(rt: &HostRuntime, bytes: &[u8]) -> io::Result<()> {
+    rt.stdout().write_all(bytes)
 }
 
-pub fn say_line(bytes: &[u8]) {
-    say(bytes);
-    say(b"\n");
+pub fn say_line(rt: &HostRuntime, bytes: &[u8]) -> io::Result<()> {
+    say(rt, bytes)?;
+    say(rt, b"\n")
 }
 
 fn is_clean(table: &[i32], from: usize) -> bool {
@@ -36,34 +37,34 @@ fn numbers(a: Answer) -> usize {
 }
 
 // The answer to a text, in the table that is lent; says so where a number past the code is not 0.
-pub fn compiled(text: &[u8], table: &mut [i32]) -> Answer {
+pub fn compiled(rt: &HostRuntime, text: &[u8], table: &mut [i32]) -> io::Result<Answer> {
     let a = compiler::compile(text, table);
     if !is_clean(table, numbers(a)) {
-        say(b"the table is not clean\n");
+        say(rt, b"the table is not clean\n")?;
     }
-    a
+    Ok(a)
 }
 
-fn say_first_line(page: &[u8; LISTING]) {
-    say_line(rows::nth(page, b'\n', 0));
+fn say_first_line(rt: &HostRuntime, page: &[u8; LISTING]) -> io::Result<()> {
+    say_line(rt, rows::nth(page, b'\n', 0))
 }
 
 // The answer without its instructions.
-pub fn say_answer(a: Answer) {
+pub fn say_answer(rt: &HostRuntime, a: Answer) -> io::Result<()> {
     let mut page = [0u8; LISTING];
     tells::list(a, &[0i32; Limits::INSTRUCTIONS * 2], &mut page);
-    say_first_line(&page);
+    say_first_line(rt, &page)
 }
 
-fn say_first(page: &[u8; LISTING], n: usize) {
-    say(base::part(page, 0, n));
+fn say_first(rt: &HostRuntime, page: &[u8; LISTING], n: usize) -> io::Result<()> {
+    say(rt, base::part(page, 0, n))
 }
 
 // The listing of a text, in a table that held other numbers.
-pub fn list(text: &[u8]) {
+pub fn list(rt: &HostRuntime, text: &[u8]) -> io::Result<()> {
     let mut table = [7i32; Limits::INSTRUCTIONS * 2];
     let mut page = [0u8; LISTING];
-    let a = compiled(text, &mut table);
+    let a = compiled(rt, text, &mut table)?;
     let s = tells::list(a, &table, &mut page);
-    say_first(&page, s.out);
+    say_first(rt, &page, s.out)
 }

@@ -1,10 +1,11 @@
 // Texts at the limits, put together from pieces.
 use crate::answers;
 use limits::Limits;
+use std::io;
 
-fn answer(text: &[u8]) {
+fn answer(rt: &HostRuntime, text: &[u8]) -> io::Result<()> {
     let mut table = [7i32; Limits::INSTRUCTIONS * 2];
-    answers::say_answer(answers::compiled(text, &mut table));
+    answers::say_answer(rt, answers::compiled(rt, text, &mut table)?)
 }
 
 // So many times `open`, the middle, and as often `close`.
@@ -22,17 +23,25 @@ fn put_nested(
 }
 
 // The same after a beginning.
-pub fn nested(first: &[u8], open: &[u8], n: usize, middle: &[u8], close: &[u8]) {
+pub fn nested(
+    rt: &HostRuntime,
+    first: &[u8],
+    open: &[u8],
+    n: usize,
+    middle: &[u8],
+    close: &[u8],
+) -> io::Result<()> {
     let mut text = [0u8; Limits::TEXT + 1];
     let a = lines::put(&mut text, 0, first);
     let e = put_nested(&mut text, a, open, n, middle, close);
-    answer(base::part(&text, 0, e));
+    answer(rt, base::part(&text, 0, e))
 }
 
 // The answer with only so many numbers lent.
-pub fn short(text: &[u8], numbers: usize) {
+pub fn short(rt: &HostRuntime, text: &[u8], numbers: usize) -> io::Result<()> {
     let mut table = [7i32; 11];
     if numbers <= table.len() {
-        answers::say_answer(answers::compiled(text, &mut table[..numbers]));
+        answers::say_answer(rt, answers::compiled(rt, text, &mut table[..numbers])?)?;
     }
+    Ok(())
 }

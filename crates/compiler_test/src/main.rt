@@ -3,48 +3,55 @@
 // A case is a text, whose listing is written; or, between bars, a text and how many numbers its table has; a heading with two bars;
 // or a text at a limit: its beginning, what is put so many times, how many, its middle, and what closes it as often.
 #![tactic(auto)]
-use libc::STDIN_FILENO;
+
+use input::Loaded;
+use std::io;
 
 mod answers;
 mod edges;
 
-fn at_a_limit(c: &[u8]) {
+fn at_a_limit(rt: &HostRuntime, c: &[u8]) -> io::Result<()> {
     edges::nested(
+        rt,
         rows::nth(c, b'|', 0),
         rows::nth(c, b'|', 1),
         cases::worth(rows::nth(c, b'|', 2)),
         rows::nth(c, b'|', 3),
         rows::nth(c, b'|', 4),
-    );
+    )
 }
 
-fn listed(text: &[u8]) {
-    answers::say_line(text);
-    answers::list(text);
+fn listed(rt: &HostRuntime, text: &[u8]) -> io::Result<()> {
+    answers::say_line(rt, text)?;
+    answers::list(rt, text)
 }
 
-fn case(c: &[u8]) {
+fn case(rt: &HostRuntime, c: &[u8]) -> io::Result<()> {
     let first = rows::nth(c, b'|', 0);
     match cases::count(c, b'|') {
-        0 => listed(c),
-        1 => edges::short(first, cases::worth(rows::nth(c, b'|', 1))),
-        2 => answers::say_line(first),
-        _ => at_a_limit(c),
+        0 => listed(rt, c),
+        1 => edges::short(rt, first, cases::worth(rows::nth(c, b'|', 1))),
+        2 => answers::say_line(rt, first),
+        _ => at_a_limit(rt, c),
     }
 }
 
-fn each(all: &[u8]) {
+fn each(rt: &HostRuntime, all: &[u8]) -> io::Result<()> {
     let n = cases::count(all, cases::END);
     let mut i = 0;
     while i < n {
-        case(rows::nth(all, cases::END, i));
+        case(rt, rows::nth(all, cases::END, i))?;
         i += 1;
     }
+    Ok(())
 }
 
-fn main() {
+fn main(rt: HostRuntime) -> io::Result<()> {
     let mut file = [0u8; 8192];
-    let n = io::read_full(STDIN_FILENO, &mut file);
+    let n = match input::text_of(&mut rt.stdin(), &mut file) {
+        Loaded::Bytes(n) => n,
+        Loaded::Unreadable(why) => return Err(why),
+    };
     cases::put_meant(&mut file);
-    each(base::part(&file, 0, n));
+    each(&rt, base::part(&file, 0, n))
 }

@@ -1,45 +1,66 @@
 // Runs each lesson on its readings, and writes what came of it.
 #![tactic(auto)]
 
+ghost use Rattle.input.specs.Received.{Receives};
+
 use input::{Loaded, Received};
-use libc::STDOUT_FILENO;
 use limits::{Limits, Station};
+use std::fs::File;
+use std::io;
+use std::io::Write;
 use std::process::ExitCode;
 
-fn run(text: &[u8], readings: &[i32]) {
+fn run(rt: &HostRuntime, text: &[u8], readings: &[i32]) -> io::Result<()> {
     let mut room = [0u8; Station::ROOM];
     let mut page = [0u8; tells::PAGE];
     let s = programs::station(text, readings, &mut room, &mut page);
     let n = s.out;
-    io::write_all(STDOUT_FILENO, &page[..n]);
+    rt.stdout().write_all(&page[..n])
 }
 
-fn lesson(name: &[u8], readings: &[u8]) {
-    io::write_all(STDOUT_FILENO, name);
-    io::write_all(STDOUT_FILENO, b"\n");
+// The readings of the file of that name.
+fn readings_file(rt: &HostRuntime, path: &str, numbers: &mut [i32]) -> Received
+    ensures { Receives result numbers.old numbers.new }
+{
+    match File::open(rt, path) {
+        Ok(mut file) => input::readings_of(&mut file, numbers),
+        Err(why) => Received::Unreadable(why),
+    }
+}
+
+// Whether it could be read. Where it cannot, that is told.
+fn lesson(rt: &HostRuntime, name: &str, readings: &str) -> io::Result<bool> {
+    println!(rt; "{name}")?;
     let mut text = [0u8; Limits::TEXT + 1];
-    let loaded = input::text_file(name, &mut text);
-    let Loaded::Bytes(size) = loaded else {
-        return desk::trouble(name);
+    let size = match input::text_file(rt, name.as_bytes(), &mut text) {
+        Loaded::Bytes(size) => size,
+        Loaded::Unreadable(why) => {
+            desk::trouble(rt, name.as_bytes(), &why);
+            return Ok(false);
+        }
     };
     let mut numbers = [0i32; Station::READINGS];
-    let fd = os::open_read(readings);
-    let received = input::readings_of(fd, &mut numbers);
-    let Received::Readings(count) = received else {
-        return desk::trouble(readings);
+    let count = match readings_file(rt, readings, &mut numbers) {
+        Received::Readings(count) => count,
+        Received::Unreadable(why) => {
+            desk::trouble(rt, readings.as_bytes(), &why);
+            return Ok(false);
+        }
     };
-    libc::close(fd);
-    run(&text[..size], &numbers[..count]);
+    run(rt, &text[..size], &numbers[..count])?;
+    Ok(true)
 }
 
-fn main(rt: HostRuntime) -> ExitCode {
-    lesson(b"bench_switch.o", b"bench_switch.readings");
-    lesson(b"ice_bowl.o", b"ice_bowl.readings");
-    lesson(b"countdown.o", b"countdown.readings");
-    lesson(b"average.o", b"average.readings");
-    lesson(b"two_sensors.o", b"two_sensors.readings");
-    lesson(b"hello.o", b"hello.readings");
-    lesson(b"sum.o", b"sum.readings");
-    lesson(b"primes.o", b"primes.readings");
-    lesson(b"factorial.o", b"factorial.readings");
+fn main(rt: HostRuntime) -> io::Result<ExitCode> {
+    let mut all = true;
+    all &= lesson(&rt, "bench_switch.o", "bench_switch.readings")?;
+    all &= lesson(&rt, "ice_bowl.o", "ice_bowl.readings")?;
+    all &= lesson(&rt, "countdown.o", "countdown.readings")?;
+    all &= lesson(&rt, "average.o", "average.readings")?;
+    all &= lesson(&rt, "two_sensors.o", "two_sensors.readings")?;
+    all &= lesson(&rt, "hello.o", "hello.readings")?;
+    all &= lesson(&rt, "sum.o", "sum.readings")?;
+    all &= lesson(&rt, "primes.o", "primes.readings")?;
+    all &= lesson(&rt, "factorial.o", "factorial.readings")?;
+    Ok(desk::end_with(if all { 0 } else { desk::TROUBLE }))
 }

@@ -2,48 +2,51 @@
 //   label: budget cells room |readings|text|table
 // and writes a line for each: label, ending, steps, readings used, output, and whether the room past it is untouched and the stack clean.
 #![tactic(auto)]
+
 ghost use Rattle.std.specs.Prelude.{◌≤◌};
 
-use libc::{STDIN_FILENO, STDOUT_FILENO};
+use input::Loaded;
 use machine::Report;
+use std::io;
+use std::io::Write;
 
 // A run starts with a stack of this and a room of that.
 const DIRT: i32 = 77;
 
 const MARK: u8 = b'~';
 
-fn say(bytes: &[u8]) {
-    io::write_all(STDOUT_FILENO, bytes);
+fn say(rt: &HostRuntime, bytes: &[u8]) -> io::Result<()> {
+    rt.stdout().write_all(bytes)
 }
 
-fn say_number(name: &[u8], n: u64) {
-    say(name);
-    io::print_decimal(STDOUT_FILENO, n);
+fn say_number(rt: &HostRuntime, name: &[u8], n: u64) -> io::Result<()> {
+    say(rt, name)?;
+    print!(rt; "{n}")
 }
 
-fn say_numbers(r: Report) {
-    say_number(b": ending ", r.ending as u64);
-    say_number(b" steps ", r.steps as u64);
-    say_number(b" used ", r.used as u64);
+fn say_numbers(rt: &HostRuntime, r: Report) -> io::Result<()> {
+    say_number(rt, b": ending ", r.ending as u64)?;
+    say_number(rt, b" steps ", r.steps as u64)?;
+    say_number(rt, b" used ", r.used as u64)
 }
 
 // The output, a line end as \n.
-fn say_lines(out: &[u8]) {
+fn say_lines(rt: &HostRuntime, out: &[u8]) -> io::Result<()> {
     let n = cases::count(out, b'\n');
     let mut i = 0;
     while i < n {
-        say(rows::nth(out, b'\n', i));
-        say(b"\\n");
+        say(rt, rows::nth(out, b'\n', i))?;
+        say(rt, b"\\n")?;
         i += 1;
     }
-    say(rows::nth(out, b'\n', n));
+    say(rt, rows::nth(out, b'\n', n))
 }
 
-fn say_whether(so: bool, what: &[u8]) {
+fn say_whether(rt: &HostRuntime, so: bool, what: &[u8]) -> io::Result<()> {
     if !so {
-        say(b" NOT");
+        say(rt, b" NOT")?;
     }
-    say(what);
+    say(rt, what)
 }
 
 fn is_untouched(room: &[u8]) -> bool {
@@ -51,18 +54,19 @@ fn is_untouched(room: &[u8]) -> bool {
 }
 
 // Between quotes.
-fn say_output(out: &[u8]) {
-    say(b" \"");
-    say_lines(out);
-    say(b"\"");
+fn say_output(rt: &HostRuntime, out: &[u8]) -> io::Result<()> {
+    say(rt, b" \"")?;
+    say_lines(rt, out)?;
+    say(rt, b"\"")
 }
 
-fn say_room(room: &[u8], length: usize) {
-    say_output(base::part(room, 0, length));
+fn say_room(rt: &HostRuntime, room: &[u8], length: usize) -> io::Result<()> {
+    say_output(rt, base::part(room, 0, length))?;
     say_whether(
+        rt,
         is_untouched(base::part(room, length, 64)),
         b" room untouched",
-    );
+    )
 }
 
 // The cells that were lent are 0, and no other was touched.
@@ -114,17 +118,17 @@ fn lend(
     )
 }
 
-fn say_stack(stack: &[i32], lent: u32) {
-    say_whether(is_clean(stack, lent as usize), b" stack clean\n");
+fn say_stack(rt: &HostRuntime, stack: &[i32], lent: u32) -> io::Result<()> {
+    say_whether(rt, is_clean(stack, lent as usize), b" stack clean\n")
 }
 
-fn run(text: &[u8], table: &[i32], readings: &[i32], l: Lent) {
+fn run(rt: &HostRuntime, text: &[u8], table: &[i32], readings: &[i32], l: Lent) -> io::Result<()> {
     let mut stack = [DIRT; 8];
     let mut room = [MARK; 64];
     let r = lend(text, table, readings, l, &mut stack, &mut room);
-    say_numbers(r);
-    say_room(&room, r.length);
-    say_stack(&stack, l.cells);
+    say_numbers(rt, r)?;
+    say_room(rt, &room, r.length)?;
+    say_stack(rt, &stack, l.cells)
 }
 
 // The numbers of some bytes, and how many.
@@ -159,40 +163,44 @@ fn lent_by(bytes: &[u8]) -> Lent {
 }
 
 // A case with its table and its readings.
-fn case(s: &[u8], table: &[i32], readings: &[i32]) {
+fn case(rt: &HostRuntime, s: &[u8], table: &[i32], readings: &[i32]) -> io::Result<()> {
     let l = lent_by(rows::nth(rows::nth(s, b'|', 0), b':', 1));
-    run(rows::nth(s, b'|', 2), table, readings, l);
+    run(rt, rows::nth(s, b'|', 2), table, readings, l)
 }
 
-fn with_numbers(s: &[u8]) {
+fn with_numbers(rt: &HostRuntime, s: &[u8]) -> io::Result<()> {
     let mut table = [0i32; 64];
     let mut given = [0i32; 8];
     let t = numbers(rows::nth(s, b'|', 3), &mut table);
     let g = numbers(rows::nth(s, b'|', 1), &mut given);
-    case(s, first(&table, t), first(&given, g));
+    case(rt, s, first(&table, t), first(&given, g))
 }
 
 // A line that has not the four parts is a heading.
-fn line(s: &[u8]) {
+fn line(rt: &HostRuntime, s: &[u8]) -> io::Result<()> {
     if cases::count(s, b'|') < 3 {
-        say(s);
-        return say(b"\n");
+        say(rt, s)?;
+        return say(rt, b"\n");
     }
-    say(rows::nth(s, b':', 0));
-    with_numbers(s);
+    say(rt, rows::nth(s, b':', 0))?;
+    with_numbers(rt, s)
 }
 
-fn each(all: &[u8]) {
+fn each(rt: &HostRuntime, all: &[u8]) -> io::Result<()> {
     let n = cases::count(all, b'\n');
     let mut i = 0;
     while i < n {
-        line(rows::nth(all, b'\n', i));
+        line(rt, rows::nth(all, b'\n', i))?;
         i += 1;
     }
+    Ok(())
 }
 
-fn main() {
+fn main(rt: HostRuntime) -> io::Result<()> {
     let mut input = [0u8; 16384];
-    let n = io::read_full(STDIN_FILENO, &mut input);
-    each(base::part(&input, 0, n));
+    let n = match input::text_of(&mut rt.stdin(), &mut input) {
+        Loaded::Bytes(n) => n,
+        Loaded::Unreadable(why) => return Err(why),
+    };
+    each(&rt, base::part(&input, 0, n))
 }

@@ -1,10 +1,13 @@
 // Places at the edges of a text and of a line, each with its line, its column, where its line begins, and the line with its mark.
 // A case of standard input is a label, a text and a place, between bars; those after `#` come after the longest line.
 #![tactic(auto)]
-use libc::{STDIN_FILENO, STDOUT_FILENO};
-use limits::Limits;
 
-fn see(label: &[u8], text: &[u8], place: usize) {
+use input::Loaded;
+use limits::Limits;
+use std::io;
+use std::io::Write;
+
+fn see(rt: &HostRuntime, label: &[u8], text: &[u8], place: usize) -> io::Result<()> {
     let mut page = [0u8; 400];
     let spot = place::spot_of(text, place);
     let a = lines::put(&mut page, 0, label);
@@ -15,57 +18,72 @@ fn see(label: &[u8], text: &[u8], place: usize) {
         [spot.line as u64, spot.column as u64, spot.start as u64],
     );
     let c = marks::put_marked_line(&mut page, b, text, place);
-    io::write_all(STDOUT_FILENO, base::part(&page, 0, c));
+    rt.stdout().write_all(base::part(&page, 0, c))
 }
 
-fn longest_line() {
+fn longest_line(rt: &HostRuntime) -> io::Result<()> {
     let mut text = [b'-'; Limits::TEXT];
     text[0] = b'<';
     text[40000] = b'X';
     text[Limits::TEXT - 1] = b'>';
-    see(b"49152 bytes, at 0", &text, 0);
-    see(b"49152 bytes, at 40000", &text, 40000);
-    see(b"49152 bytes, at 49152", &text, Limits::TEXT);
+    see(rt, b"49152 bytes, at 0", &text, 0)?;
+    see(rt, b"49152 bytes, at 40000", &text, 40000)?;
+    see(rt, b"49152 bytes, at 49152", &text, Limits::TEXT)?;
     text[39900] = b'\n';
-    see(b"49152 bytes, a line feed at 39900, at 39900", &text, 39900);
-    see(b"49152 bytes, a line feed at 39900, at 40000", &text, 40000);
+    see(
+        rt,
+        b"49152 bytes, a line feed at 39900, at 39900",
+        &text,
+        39900,
+    )?;
+    see(
+        rt,
+        b"49152 bytes, a line feed at 39900, at 40000",
+        &text,
+        40000,
+    )
 }
 
 // A page that is too short keeps what there is room for.
-fn short_page() {
+fn short_page(rt: &HostRuntime) -> io::Result<()> {
     let mut page = [b'#'; 12];
     let n = marks::put_marked_line(&mut page, 1, b"DO PRINTI n", 3);
-    io::write_all(STDOUT_FILENO, base::part(&page, 0, n));
-    io::write_all(STDOUT_FILENO, b"\n");
+    rt.stdout().write_all(base::part(&page, 0, n))?;
+    rt.stdout().write_all(b"\n")
 }
 
-fn case(c: &[u8]) {
+fn case(rt: &HostRuntime, c: &[u8]) -> io::Result<()> {
     see(
+        rt,
         rows::nth(c, b'|', 0),
         rows::nth(c, b'|', 1),
         cases::worth(rows::nth(c, b'|', 2)),
-    );
+    )
 }
 
-fn each(all: &[u8]) {
+fn each(rt: &HostRuntime, all: &[u8]) -> io::Result<()> {
     let n = cases::count(all, cases::END);
     let mut i = 0;
     while i < n {
-        case(rows::nth(all, cases::END, i));
+        case(rt, rows::nth(all, cases::END, i))?;
         i += 1;
     }
+    Ok(())
 }
 
-fn tried(all: &[u8]) {
-    each(rows::nth(all, b'#', 0));
-    longest_line();
-    each(rows::nth(all, b'#', 1));
+fn tried(rt: &HostRuntime, all: &[u8]) -> io::Result<()> {
+    each(rt, rows::nth(all, b'#', 0))?;
+    longest_line(rt)?;
+    each(rt, rows::nth(all, b'#', 1))
 }
 
-fn main() {
+fn main(rt: HostRuntime) -> io::Result<()> {
     let mut file = [0u8; 8192];
-    let n = io::read_full(STDIN_FILENO, &mut file);
+    let n = match input::text_of(&mut rt.stdin(), &mut file) {
+        Loaded::Bytes(n) => n,
+        Loaded::Unreadable(why) => return Err(why),
+    };
     cases::put_meant(&mut file);
-    tried(base::part(&file, 0, n));
-    short_page();
+    tried(&rt, base::part(&file, 0, n))?;
+    short_page(&rt)
 }

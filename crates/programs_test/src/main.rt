@@ -1,7 +1,9 @@
 // What the programs say of each case of standard input, from bytes to bytes. `stdin` says how a case is written.
 #![tactic(auto)]
-use libc::STDIN_FILENO;
+
+use input::Loaded;
 use limits::{Limits, Station};
+use std::io;
 
 mod runs;
 mod say;
@@ -30,51 +32,56 @@ fn read(line: &[u8], numbers: &mut [i32]) -> usize {
 }
 
 // An input alone is seen by a text that reads and prints until there is none.
-fn run(line: &[u8], text: &[u8], numbers: &[i32]) {
+fn run(rt: &HostRuntime, line: &[u8], text: &[u8], numbers: &[i32]) -> io::Result<()> {
     if text.len() < 1 && 0 < line.len() {
         return runs::station(
+            rt,
             b"DO { INT n WHILE 1 = 1 DO { READ n PRINTI n PRINTS \";\" } }",
             numbers,
         );
     }
-    runs::all(text, numbers);
+    runs::all(rt, text, numbers)
 }
 
 // A line and its text.
-fn with_text(line: &[u8], text: &[u8]) {
+fn with_text(rt: &HostRuntime, line: &[u8], text: &[u8]) -> io::Result<()> {
     let mut numbers = [0i32; Station::READINGS];
     let n = read(rows::nth(line, b'~', 1), &mut numbers);
-    say::case(line, text.len(), n);
-    run(line, text, runs::first(&numbers, n));
+    say::case(rt, line, text.len(), n)?;
+    run(rt, line, text, runs::first(&numbers, n))
 }
 
 // A line: a text, or a text, a tilde and an input, or only the tilde and the input.
-fn case(line: &[u8]) {
+fn case(rt: &HostRuntime, line: &[u8]) -> io::Result<()> {
     let mut text = [0u8; Limits::TEXT + 1];
     let size = texts::written(&mut text, rows::nth(line, b'~', 0));
-    with_text(line, base::part(&text, 0, size));
+    with_text(rt, line, base::part(&text, 0, size))
 }
 
-fn case_or_comment(line: &[u8]) {
+fn case_or_comment(rt: &HostRuntime, line: &[u8]) -> io::Result<()> {
     if 0 < line.len() {
         if line[0] == b'#' {
-            return;
+            return Ok(());
         }
     }
-    case(line);
+    case(rt, line)
 }
 
-fn each(all: &[u8]) {
+fn each(rt: &HostRuntime, all: &[u8]) -> io::Result<()> {
     let n = cases::count(all, b'\n');
     let mut i = 0;
     while i < n {
-        case_or_comment(rows::nth(all, b'\n', i));
+        case_or_comment(rt, rows::nth(all, b'\n', i))?;
         i += 1;
     }
+    Ok(())
 }
 
-fn main() {
+fn main(rt: HostRuntime) -> io::Result<()> {
     let mut file = [0u8; 8192];
-    let n = io::read_full(STDIN_FILENO, &mut file);
-    each(base::part(&file, 0, n));
+    let n = match input::text_of(&mut rt.stdin(), &mut file) {
+        Loaded::Bytes(n) => n,
+        Loaded::Unreadable(why) => return Err(why),
+    };
+    each(&rt, base::part(&file, 0, n))
 }

@@ -2,56 +2,63 @@
 use crate::say;
 use limits::Station;
 use reports::Came;
+use std::io;
 use tells::Said;
 
-fn listed(s: Said, page: &[u8; tells::LISTING]) {
-    say::said(b"listing", s, page, b"");
+fn listed(rt: &HostRuntime, s: Said, page: &[u8; tells::LISTING]) -> io::Result<()> {
+    say::said(rt, b"listing", s, page, b"")
 }
 
-fn listing(text: &[u8]) {
+fn listing(rt: &HostRuntime, text: &[u8]) -> io::Result<()> {
     let mut page = [b'#'; tells::LISTING];
     let s = programs::listing(text, &mut page);
-    listed(s, &page);
+    listed(rt, s, &page)
 }
 
-fn said(name: &[u8], s: Said, page: &[u8; tells::PAGE], note: &[u8; tells::LINE]) {
-    say::said(name, s, page, note);
+fn said(
+    rt: &HostRuntime,
+    name: &[u8],
+    s: Said,
+    page: &[u8; tells::PAGE],
+    note: &[u8; tells::LINE],
+) -> io::Result<()> {
+    say::said(rt, name, s, page, note)
 }
 
-pub fn station(text: &[u8], numbers: &[i32]) {
+pub fn station(rt: &HostRuntime, text: &[u8], numbers: &[i32]) -> io::Result<()> {
     let mut room = [7u8; Station::ROOM];
     let mut page = [b'#'; tells::PAGE];
     let s = programs::station(text, numbers, &mut room, &mut page);
-    said(b"station", s, &page, &[b'#'; tells::LINE]);
+    said(rt, b"station", s, &page, &[b'#'; tells::LINE])
 }
 
-fn feed(text: &[u8], numbers: &[i32]) {
+fn feed(rt: &HostRuntime, text: &[u8], numbers: &[i32]) -> io::Result<()> {
     let mut room = [7u8; Station::ROOM];
     let mut page = [b'#'; tells::PAGE];
     let mut note = [b'#'; tells::LINE];
     let s = programs::feed(text, numbers, &mut room, &mut page, &mut note);
-    said(b"feed", s, &page, &note);
+    said(rt, b"feed", s, &page, &note)
 }
 
 // The room past the output is as it was.
-fn left(c: Came, room: &[u8; Station::ROOM]) {
+fn left(rt: &HostRuntime, c: Came, room: &[u8; Station::ROOM]) -> io::Result<()> {
     match c {
-        Came::Ran(r) => say::left(room, r.length, 7),
-        Came::Refused(_, _) => say::left(room, 0, 7),
+        Came::Ran(r) => say::left(rt, room, r.length, 7),
+        Came::Refused(_, _) => say::left(rt, room, 0, 7),
     }
 }
 
-fn lesson(text: &[u8], numbers: &[i32]) {
+fn lesson(rt: &HostRuntime, text: &[u8], numbers: &[i32]) -> io::Result<()> {
     let mut room = [7u8; Station::ROOM];
     let c = programs::lesson(text, numbers, &mut room);
-    left(c, &room);
+    left(rt, c, &room)
 }
 
-pub fn all(text: &[u8], numbers: &[i32]) {
-    listing(text);
-    station(text, numbers);
-    feed(text, numbers);
-    lesson(text, numbers);
+pub fn all(rt: &HostRuntime, text: &[u8], numbers: &[i32]) -> io::Result<()> {
+    listing(rt, text)?;
+    station(rt, text, numbers)?;
+    feed(rt, text, numbers)?;
+    lesson(rt, text, numbers)
 }
 
 // The first so many numbers.

@@ -1,25 +1,26 @@
 // What a program said: standard output, standard error and the status, each after its name.
 ghost use Rattle.std.specs.Prelude.{◌≤◌, length};
 
-use libc::STDOUT_FILENO;
+use std::io;
+use std::io::Write;
 use tells::Said;
 
-fn write(bytes: &[u8]) {
-    io::write_all(STDOUT_FILENO, bytes);
+fn write(rt: &HostRuntime, bytes: &[u8]) -> io::Result<()> {
+    rt.stdout().write_all(bytes)
 }
 
-fn number(name: &[u8], n: u64) {
-    write(name);
-    io::print_decimal(STDOUT_FILENO, n);
+fn number(rt: &HostRuntime, name: &[u8], n: u64) -> io::Result<()> {
+    write(rt, name)?;
+    print!(rt; "{n}")
 }
 
 // A case, the bytes of its text and its readings.
-pub fn case(line: &[u8], size: usize, readings: usize) {
-    write(b"== ");
-    write(line);
-    number(b"\nbytes ", size as u64);
-    number(b" readings ", readings as u64);
-    write(b"\n");
+pub fn case(rt: &HostRuntime, line: &[u8], size: usize, readings: usize) -> io::Result<()> {
+    write(rt, b"== ")?;
+    write(rt, line)?;
+    number(rt, b"\nbytes ", size as u64)?;
+    number(rt, b" readings ", readings as u64)?;
+    write(rt, b"\n")
 }
 
 // Where the line begins that ends before a place.
@@ -38,34 +39,35 @@ fn line_start(bytes: &[u8], end: usize) -> usize
 }
 
 // The first line and the last two of many bytes.
-fn ends(bytes: &[u8]) {
+fn ends(rt: &HostRuntime, bytes: &[u8]) -> io::Result<()> {
     let last = line_start(bytes, bytes.len());
     let start = line_start(bytes, last);
-    write(rows::nth(bytes, b'\n', 0));
-    write(b"\n..\n");
-    write(&bytes[start..]);
+    write(rt, rows::nth(bytes, b'\n', 0))?;
+    write(rt, b"\n..\n")?;
+    write(rt, &bytes[start..])
 }
 
 // Says so where the last line has no end.
-fn line_end(bytes: &[u8]) {
+fn line_end(rt: &HostRuntime, bytes: &[u8]) -> io::Result<()> {
     let n = bytes.len();
     if 0 < n {
         if bytes[n - 1] != b'\n' {
-            write(b"\n\\ no line end\n");
+            write(rt, b"\n\\ no line end\n")?;
         }
     }
+    Ok(())
 }
 
 // How many bytes there are, where not all are shown.
-fn shown(bytes: &[u8]) {
+fn shown(rt: &HostRuntime, bytes: &[u8]) -> io::Result<()> {
     if bytes.len() <= 100 {
-        write(bytes);
-        return line_end(bytes);
+        write(rt, bytes)?;
+        return line_end(rt, bytes);
     }
-    ends(bytes);
-    line_end(bytes);
-    number(b".. bytes ", bytes.len() as u64);
-    write(b"\n");
+    ends(rt, bytes)?;
+    line_end(rt, bytes)?;
+    number(rt, b".. bytes ", bytes.len() as u64)?;
+    write(rt, b"\n")
 }
 
 fn is_left(page: &[u8], from: usize, filler: u8) -> bool {
@@ -78,22 +80,23 @@ fn is_left(page: &[u8], from: usize, filler: u8) -> bool {
 }
 
 // Says so where a byte past what was said is not as it was.
-pub fn left(page: &[u8], from: usize, filler: u8) {
+pub fn left(rt: &HostRuntime, page: &[u8], from: usize, filler: u8) -> io::Result<()> {
     if !is_left(page, from, filler) {
-        write(b"a byte past it was changed\n");
+        write(rt, b"a byte past it was changed\n")?;
     }
+    Ok(())
 }
 
 // So many bytes of a page that was filled with `#`.
-fn stream(name: &[u8], page: &[u8], n: usize) {
-    write(name);
-    shown(base::part(page, 0, n));
-    left(page, n, b'#');
+fn stream(rt: &HostRuntime, name: &[u8], page: &[u8], n: usize) -> io::Result<()> {
+    write(rt, name)?;
+    shown(rt, base::part(page, 0, n))?;
+    left(rt, page, n, b'#')
 }
 
-pub fn said(name: &[u8], s: Said, out: &[u8], err: &[u8]) {
-    write(name);
-    number(b" status ", s.status as u64);
-    stream(b"\nout:\n", out, s.out);
-    stream(b"err:\n", err, s.err);
+pub fn said(rt: &HostRuntime, name: &[u8], s: Said, out: &[u8], err: &[u8]) -> io::Result<()> {
+    write(rt, name)?;
+    number(rt, b" status ", s.status as u64)?;
+    stream(rt, b"\nout:\n", out, s.out)?;
+    stream(rt, b"err:\n", err, s.err)
 }

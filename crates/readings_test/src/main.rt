@@ -2,29 +2,33 @@
 // A case is a label and two chunks of an input, and where there is more before them, how often and what. Between semicolons it is asked for its
 // readings, and between bars, after each of the two chunks, whether they are over.
 #![tactic(auto)]
-use libc::{STDIN_FILENO, STDOUT_FILENO};
-use readings::{Reader, finish, is_over, more, start};
 
-fn say(text: &[u8]) {
-    io::write_all(STDOUT_FILENO, text);
+use input::Loaded;
+use readings::{Reader, finish, is_over, more, start};
+use std::io;
+use std::io::Write;
+
+fn say(rt: &HostRuntime, text: &[u8]) -> io::Result<()> {
+    rt.stdout().write_all(text)
 }
 
-fn say_spaced(z: i32) {
+fn say_spaced(rt: &HostRuntime, z: i32) -> io::Result<()> {
     let mut page = [0u8; 20];
     let n = lines::put_spaced(&mut page, 0, z);
-    say(base::part(&page, 0, n));
+    say(rt, base::part(&page, 0, n))
 }
 
 // The numbers from a place up to another.
-fn say_numbers(numbers: &[i32], from: usize, to: usize) {
+fn say_numbers(rt: &HostRuntime, numbers: &[i32], from: usize, to: usize) -> io::Result<()> {
     let mut i = from;
     while i < to {
         if numbers.len() <= i {
-            return;
+            return Ok(());
         }
-        say_spaced(numbers[i]);
+        say_spaced(rt, numbers[i])?;
         i += 1;
     }
+    Ok(())
 }
 
 // Of many readings the last two are said.
@@ -35,11 +39,11 @@ fn first_said(n: usize) -> usize {
     n - 2
 }
 
-fn say_readings(numbers: &[i32], n: usize) {
-    say(b": ");
-    io::print_decimal(STDOUT_FILENO, n as u64);
-    say(b" readings:");
-    say_numbers(numbers, first_said(n), n);
+fn say_readings(rt: &HostRuntime, numbers: &[i32], n: usize) -> io::Result<()> {
+    say(rt, b": ")?;
+    print!(rt; "{n}")?;
+    say(rt, b" readings:")?;
+    say_numbers(rt, numbers, first_said(n), n)
 }
 
 // A chunk so many times.
@@ -69,57 +73,62 @@ fn read(c: &[u8], numbers: &mut [i32]) -> usize {
     finish(t, numbers)
 }
 
-fn show(c: &[u8]) {
+fn show(rt: &HostRuntime, c: &[u8]) -> io::Result<()> {
     let mut numbers = [0i32; 4096];
     let n = read(c, &mut numbers);
-    say_readings(&numbers, n);
+    say_readings(rt, &numbers, n)
 }
 
-fn say_over(over: bool) {
+fn say_over(rt: &HostRuntime, over: bool) -> io::Result<()> {
     if !over {
-        say(b"not ");
+        say(rt, b"not ")?;
     }
-    say(b"over");
+    say(rt, b"over")
 }
 
 // What is told after one chunk more.
-fn told(r: Reader, chunk: &[u8], numbers: &mut [i32]) -> Reader {
+fn told(rt: &HostRuntime, r: Reader, chunk: &[u8], numbers: &mut [i32]) -> io::Result<Reader> {
     let s = more(r, chunk, numbers);
-    say_over(is_over(s, numbers));
-    s
+    say_over(rt, is_over(s, numbers))?;
+    Ok(s)
 }
 
-fn tell(c: &[u8]) {
+fn tell(rt: &HostRuntime, c: &[u8]) -> io::Result<()> {
     let mut numbers = [0i32; 4096];
     let r = before(c, b'|', &mut numbers);
-    say(b": ");
-    let s = told(r, rows::nth(c, b'|', 1), &mut numbers);
-    say(b", then ");
-    told(s, rows::nth(c, b'|', 2), &mut numbers);
+    say(rt, b": ")?;
+    let s = told(rt, r, rows::nth(c, b'|', 1), &mut numbers)?;
+    say(rt, b", then ")?;
+    told(rt, s, rows::nth(c, b'|', 2), &mut numbers)?;
+    Ok(())
 }
 
-fn case(c: &[u8]) {
+fn case(rt: &HostRuntime, c: &[u8]) -> io::Result<()> {
     if 0 < cases::count(c, b'|') {
-        say(rows::nth(c, b'|', 0));
-        return tell(c);
+        say(rt, rows::nth(c, b'|', 0))?;
+        return tell(rt, c);
     }
-    say(rows::nth(c, b';', 0));
-    show(c);
+    say(rt, rows::nth(c, b';', 0))?;
+    show(rt, c)
 }
 
-fn each(all: &[u8]) {
+fn each(rt: &HostRuntime, all: &[u8]) -> io::Result<()> {
     let n = cases::count(all, cases::END);
     let mut i = 0;
     while i < n {
-        case(rows::nth(all, cases::END, i));
-        say(b"\n");
+        case(rt, rows::nth(all, cases::END, i))?;
+        say(rt, b"\n")?;
         i += 1;
     }
+    Ok(())
 }
 
-fn main() {
+fn main(rt: HostRuntime) -> io::Result<()> {
     let mut file = [0u8; 4096];
-    let n = io::read_full(STDIN_FILENO, &mut file);
+    let n = match input::text_of(&mut rt.stdin(), &mut file) {
+        Loaded::Bytes(n) => n,
+        Loaded::Unreadable(why) => return Err(why),
+    };
     cases::put_meant(&mut file);
-    each(base::part(&file, 0, n));
+    each(&rt, base::part(&file, 0, n))
 }

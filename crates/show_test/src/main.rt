@@ -1,34 +1,36 @@
 // What `show` says of texts: every refusal, with each of its reasons, and every ending that a text can have.
 // A case of standard input is a text, a bar and an input; those after `#` come after the texts that are refused as a whole.
 #![tactic(auto)]
-use libc::{STDIN_FILENO, STDOUT_FILENO};
+
+use input::Loaded;
 use limits::{Limits, Station};
+use std::io;
+use std::io::Write;
 use tells::Said;
 
-fn said(s: Said, page: &[u8; pupil::SHOWN]) {
-    io::write_all(STDOUT_FILENO, base::part(page, 0, s.out));
-    io::write_all(STDOUT_FILENO, b"status ");
-    io::print_decimal(STDOUT_FILENO, s.status as u64);
-    io::write_all(STDOUT_FILENO, b"\n");
+fn said(rt: &HostRuntime, s: Said, page: &[u8; pupil::SHOWN]) -> io::Result<()> {
+    rt.stdout().write_all(base::part(page, 0, s.out))?;
+    let status = s.status;
+    println!(rt; "status {status}")
 }
 
 // The text, run on readings that stand in so many of the numbers.
-fn see_run(text: &[u8], numbers: &[i32], count: usize) {
+fn see_run(rt: &HostRuntime, text: &[u8], numbers: &[i32], count: usize) -> io::Result<()> {
     if numbers.len() < count {
-        return;
+        return Ok(());
     }
     let mut room = [7u8; Station::ROOM];
     let came = programs::lesson(text, &numbers[..count], &mut room);
     let mut page = [7u8; pupil::SHOWN];
     let s = pupil::show(came, words::of_the_paper(), text, &room, &mut page);
-    said(s, &page);
+    said(rt, s, &page)
 }
 
-fn see(text: &[u8], input: &[u8]) {
+fn see(rt: &HostRuntime, text: &[u8], input: &[u8]) -> io::Result<()> {
     let mut numbers = [0i32; Station::READINGS];
     let reader = readings::more(readings::start(), input, &mut numbers);
     let count = readings::finish(reader, &mut numbers);
-    see_run(text, &numbers, count);
+    see_run(rt, text, &numbers, count)
 }
 
 fn one_or_plus(i: usize) -> u8 {
@@ -48,41 +50,45 @@ fn put_sum(text: &mut [u8]) {
 }
 
 // A sum of so many ones that its code is one instruction too long: it has eight fewer than the text has bytes.
-fn too_much_code() {
+fn too_much_code(rt: &HostRuntime) -> io::Result<()> {
     let mut text = [0u8; Limits::INSTRUCTIONS + 9];
     put_sum(&mut text);
     lines::put(&mut text, 0, b"DO PRINTI ");
-    see(&text, b"");
+    see(rt, &text, b"")
 }
 
-fn whole_texts() {
+fn whole_texts(rt: &HostRuntime) -> io::Result<()> {
     let long = [b' '; Limits::TEXT + 1];
-    see(&long, b"");
-    too_much_code();
+    see(rt, &long, b"")?;
+    too_much_code(rt)
 }
 
-fn case(c: &[u8]) {
-    see(rows::nth(c, b'|', 0), rows::nth(c, b'|', 1));
+fn case(rt: &HostRuntime, c: &[u8]) -> io::Result<()> {
+    see(rt, rows::nth(c, b'|', 0), rows::nth(c, b'|', 1))
 }
 
-fn each(all: &[u8]) {
+fn each(rt: &HostRuntime, all: &[u8]) -> io::Result<()> {
     let n = cases::count(all, cases::END);
     let mut i = 0;
     while i < n {
-        case(rows::nth(all, cases::END, i));
+        case(rt, rows::nth(all, cases::END, i))?;
         i += 1;
     }
+    Ok(())
 }
 
-fn tried(all: &[u8]) {
-    each(rows::nth(all, b'#', 0));
-    whole_texts();
-    each(rows::nth(all, b'#', 1));
+fn tried(rt: &HostRuntime, all: &[u8]) -> io::Result<()> {
+    each(rt, rows::nth(all, b'#', 0))?;
+    whole_texts(rt)?;
+    each(rt, rows::nth(all, b'#', 1))
 }
 
-fn main() {
+fn main(rt: HostRuntime) -> io::Result<()> {
     let mut file = [0u8; 8192];
-    let n = io::read_full(STDIN_FILENO, &mut file);
+    let n = match input::text_of(&mut rt.stdin(), &mut file) {
+        Loaded::Bytes(n) => n,
+        Loaded::Unreadable(why) => return Err(why),
+    };
     cases::put_meant(&mut file);
-    tried(base::part(&file, 0, n));
+    tried(&rt, base::part(&file, 0, n))
 }

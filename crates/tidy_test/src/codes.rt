@@ -4,6 +4,7 @@ use base::Such;
 use instruction::decode::{Op, decode};
 use instruction::operations;
 use limits::Limits;
+use std::io;
 
 // The bytes that a pair prints: from its place up to the next quote.
 fn string_of(text: &[u8], operation: i32, operand: i32) -> &[u8] {
@@ -52,23 +53,24 @@ fn compiled(text: &[u8], table: &mut [i32]) -> [u64; 5] {
 }
 
 // The copy is accepted as the text is, and its code is the text's but for the places of strings.
-pub fn of_copied(text: &[u8], copy: &[u8]) {
+pub fn of_copied(rt: &HostRuntime, text: &[u8], copy: &[u8]) -> io::Result<()> {
     let mut table = [7i32; Limits::INSTRUCTIONS * 2];
     let mut other = [7i32; Limits::INSTRUCTIONS * 2];
     let a = compiled(text, &mut table);
     let b = compiled(copy, &mut other);
-    say::wrong_unless(a[0] == 0, b"a refused text was copied");
-    say::wrong_unless(is_equal(a, b), b"the copy's counts");
-    say::wrong_unless(is_alike(text, copy, &table, &other), b"the copy's code");
+    say::wrong_unless(rt, a[0] == 0, b"a refused text was copied")?;
+    say::wrong_unless(rt, is_equal(a, b), b"the copy's counts")?;
+    say::wrong_unless(rt, is_alike(text, copy, &table, &other), b"the copy's code")
 }
 
 // A refusal is the compiler's own; 15 is of an accepted text.
-pub fn of_refused(text: &[u8], refusal: [u64; 3]) {
+pub fn of_refused(rt: &HostRuntime, text: &[u8], refusal: [u64; 3]) -> io::Result<()> {
     let mut table = [7i32; Limits::INSTRUCTIONS * 2];
     let a = compiled(text, &mut table);
     say::wrong_unless(
+        rt,
         a[0] == refusal[0] || a[0] == 0 && refusal[0] == 15,
         b"the refusal is not the text's own",
-    );
-    say::wrong_unless(a[1] == refusal[1], b"the refusal's place");
+    )?;
+    say::wrong_unless(rt, a[1] == refusal[1], b"the refusal's place")
 }

@@ -1,7 +1,9 @@
 // Tidy copies of the texts of standard input, each with all that must hold of it. `stdin` says how a case is written.
 #![tactic(auto)]
-use libc::STDIN_FILENO;
+
+use input::Loaded;
 use limits::Limits;
+use std::io;
 
 mod checks;
 mod codes;
@@ -9,17 +11,17 @@ mod say;
 mod texts;
 
 // A text, in a room of its own or in one of so many bytes.
-fn tried(text: &[u8], bytes: &[u8]) {
+fn tried(rt: &HostRuntime, text: &[u8], bytes: &[u8]) -> io::Result<()> {
     if bytes.len() < 1 {
-        return checks::all(text);
+        return checks::all(rt, text);
     }
-    checks::in_room(text, cases::worth(bytes));
+    checks::in_room(rt, text, cases::worth(bytes))
 }
 
-fn case(line: &[u8]) {
+fn case(rt: &HostRuntime, line: &[u8]) -> io::Result<()> {
     let mut text = [0u8; Limits::TEXT + 1];
     let size = texts::written(&mut text, rows::nth(line, b'~', 0));
-    tried(base::part(&text, 0, size), rows::nth(line, b'~', 1));
+    tried(rt, base::part(&text, 0, size), rows::nth(line, b'~', 1))
 }
 
 fn is_heading(line: &[u8]) -> bool {
@@ -29,24 +31,29 @@ fn is_heading(line: &[u8]) -> bool {
     line[0] == b'#'
 }
 
-fn case_or_heading(line: &[u8]) {
-    say::line(line);
+fn case_or_heading(rt: &HostRuntime, line: &[u8]) -> io::Result<()> {
+    say::line(rt, line)?;
     if !is_heading(line) {
-        case(line);
+        case(rt, line)?;
     }
+    Ok(())
 }
 
-fn each(all: &[u8]) {
+fn each(rt: &HostRuntime, all: &[u8]) -> io::Result<()> {
     let n = cases::count(all, b'\n');
     let mut i = 0;
     while i < n {
-        case_or_heading(rows::nth(all, b'\n', i));
+        case_or_heading(rt, rows::nth(all, b'\n', i))?;
         i += 1;
     }
+    Ok(())
 }
 
-fn main() {
+fn main(rt: HostRuntime) -> io::Result<()> {
     let mut file = [0u8; 8192];
-    let n = io::read_full(STDIN_FILENO, &mut file);
-    each(base::part(&file, 0, n));
+    let n = match input::text_of(&mut rt.stdin(), &mut file) {
+        Loaded::Bytes(n) => n,
+        Loaded::Unreadable(why) => return Err(why),
+    };
+    each(&rt, base::part(&file, 0, n))
 }

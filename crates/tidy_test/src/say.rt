@@ -1,17 +1,19 @@
 // What is written of a case.
-use libc::STDOUT_FILENO;
+use std::io;
+use std::io::Write;
 
-pub fn line(bytes: &[u8]) {
-    io::write_all(STDOUT_FILENO, bytes);
-    io::write_all(STDOUT_FILENO, b"\n");
+pub fn line(rt: &HostRuntime, bytes: &[u8]) -> io::Result<()> {
+    rt.stdout().write_all(bytes)?;
+    rt.stdout().write_all(b"\n")
 }
 
 // Says what is wrong, where it is.
-pub fn wrong_unless(holds: bool, what: &[u8]) {
+pub fn wrong_unless(rt: &HostRuntime, holds: bool, what: &[u8]) -> io::Result<()> {
     if !holds {
-        io::write_all(STDOUT_FILENO, b"WRONG: ");
-        line(what);
+        rt.stdout().write_all(b"WRONG: ")?;
+        line(rt, what)?;
     }
+    Ok(())
 }
 
 // The byte that stands in a case for one that would not show.
@@ -36,27 +38,27 @@ fn put_signs(bytes: &mut [u8]) {
 // A longer copy is not shown.
 const SHOWN: usize = 400;
 
-fn copy(bytes: &[u8]) {
+fn copy(rt: &HostRuntime, bytes: &[u8]) -> io::Result<()> {
     if SHOWN < bytes.len() {
-        return;
+        return Ok(());
     }
     let mut page = [0u8; SHOWN];
     let n = lines::put(&mut page, 0, bytes);
     put_signs(&mut page);
-    line(base::part(&page, 0, n));
+    line(rt, base::part(&page, 0, n))
 }
 
-fn filled(form: &[u8], numbers: [u64; 3]) {
+fn filled(rt: &HostRuntime, form: &[u8], numbers: [u64; 3]) -> io::Result<()> {
     let mut page = [0u8; 60];
     let n = lines::fill(&mut page, 0, form, numbers);
-    line(base::part(&page, 0, n));
+    line(rt, base::part(&page, 0, n))
 }
 
 // `copied N` and the copy, or `refused N P`.
-pub fn answer(a: [u64; 3], bytes: &[u8]) {
+pub fn answer(rt: &HostRuntime, a: [u64; 3], bytes: &[u8]) -> io::Result<()> {
     if a[0] != 0 {
-        return filled(b"refused # #", a);
+        return filled(rt, b"refused # #", a);
     }
-    filled(b"copied #", [a[2], 0, 0]);
-    copy(bytes);
+    filled(rt, b"copied #", [a[2], 0, 0])?;
+    copy(rt, bytes)
 }
