@@ -8,7 +8,7 @@ use native.Mathlib.Omega.{arith}
 use borrow.Author.Tests.{lt-ltb}
 use Rattle.base.specs.declared.Refusal.{Refusal}
 use Rattle.base.specs.declared.Refusal.TheVariants.{NoProgram, TooDeep}
-use Rattle.lexeme.specs.Lexemes.{Name, Lexeme, next, open_round, close_round, NOT}
+use Rattle.lexeme.specs.Lexemes.{Name, next, open_round, close_round, NOT}
 use Rattle.lexeme.specs.inner.Coded.{code_of, coded, fixed_number, Ends, Stands}
 use Rattle.lexeme.specs.declared.Found.TheVariants as reply
 use Rattle.lexeme.specs.declared.Kind.TheVariants as kind

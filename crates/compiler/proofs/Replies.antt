@@ -8,7 +8,7 @@ use native.Mathlib.Omega.{arith}
 use lib.IntN.{ℤ, pos}
 use lib.ListN.{length}
 use Rattle.base.specs.declared.Refusal.{Refusal}
-use Rattle.lexeme.specs.Lexemes.{Name, Lexeme, next}
+use Rattle.lexeme.specs.Lexemes.{Name, next}
 use Rattle.lexeme.specs.inner.Coded.{coded, fixed_number}
 use Rattle.lexeme.specs.declared.Lexeme as code
 use Rattle.lexeme.specs.declared.Found.TheVariants as reply
