@@ -1,5 +1,6 @@
 // What came of a text in plain words, for a pupil, into a page that is lent.
 #![tactic(auto)]
+
 ghost use Rattle.std.specs.Prelude.{◌≡◌, [], ◌+◌, ◌≤◌, length};
 ghost use Rattle.lines.specs.Added.{Added};
 ghost use Rattle.tells.specs.Writes.{Writes, with_output};
