@@ -1,5 +1,6 @@
 // What came of a text in plain words, for a pupil, into a page that is lent.
 #![tactic(auto)]
+
 ghost use Rattle.std.specs.Prelude.{◌≡◌, [], ◌+◌, ◌≤◌, length};
 ghost use Rattle.lines.specs.Added.{Added};
 ghost use Rattle.tells.specs.Writes.{Writes, with_output};
@@ -50,8 +51,8 @@ fn put_where(page: &mut [u8], text: &[u8], why: Refusal, place: usize) -> usize
 }
 
 fn put_refusal(page: &mut [u8], n: Numbers, text: &[u8], why: Refusal, place: usize) -> usize
-    ensures fact { Added (shown_refusal (record { whole = Window.WHOLE; last = Window.LAST; next = Window.NEXT; rest = Window.REST }) n text.now why place) page.old 0 page.new result }
-    ensures place_bound { length (shown_refusal (record { whole = Window.WHOLE; last = Window.LAST; next = Window.NEXT; rest = Window.REST }) n text.now why place) ≤ 512 }
+    ensures added { Added (shown_refusal (record { whole = Window.WHOLE; last = Window.LAST; next = Window.NEXT; rest = Window.REST }) n text.now why place) page.old 0 page.new result }
+    ensures short { length (shown_refusal (record { whole = Window.WHOLE; last = Window.LAST; next = Window.NEXT; rest = Window.REST }) n text.now why place) ≤ 512 }
 {
     let a = put_where(page, text, why, place);
     let b = words::put_why(page, a, n, text, why, place);
@@ -80,7 +81,7 @@ fn put_steps(page: &mut [u8], at: usize, ending: u8, steps: u32, budget: u32) ->
 
 fn put_run(page: &mut [u8], n: Numbers, r: Report, output: &[u8]) -> usize
     ensures added { Added (shown_run n (record { ending = r.ending; steps = r.steps; used = r.used; output = output.now })) page.old 0 page.new result }
-    ensures output_in_bounds { length (shown_run n (record { ending = r.ending; steps = r.steps; used = r.used; output = output.now })) ≤ length output.now + 512 }
+    ensures short { length (shown_run n (record { ending = r.ending; steps = r.steps; used = r.used; output = output.now })) ≤ length output.now + 512 }
 {
     let a = put_output(page, output);
     let b = put_steps(page, a, r.ending, r.steps, n.budget);

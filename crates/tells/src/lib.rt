@@ -1,5 +1,6 @@
 // What is told of an answer and of what came of a text, into pages that are lent.
 #![tactic(auto)]
+
 ghost use Rattle.std.specs.Prelude.{◌≡◌, [], ◌*◌, take};
 ghost use Rattle.tells.specs.Tells.{status_of, said_of_answer, said_of_run, sent};
 ghost use Rattle.tells.specs.Writes.{Writes, with_output};
