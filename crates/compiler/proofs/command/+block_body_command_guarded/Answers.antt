@@ -1,14 +1,12 @@
 -- The readers of commands with bodies meet their contracts. A nesting less is allowed inside, so the calls end. Assumes nothing.
-use Prim.Native.Nat.{ℕ, suc, ◌+◌, ◌*◌, ◌-◌, ◌<◌}
+use Prim.Native.Nat.{ℕ, suc, ◌-◌}
 use mathlib.Core.Bool.{Bool}
 use mathlib.Core.List.{List}
 use lib.IntN.{ℤ}
 use mathlib.Core.Path.{◌≡◌, refl, sym, ◌∙◌}
 use native.Mathlib.Omega.{arith}
-use borrow.Author.Rules.{rules}
 use borrow.Author.Tests.{ne_eqb}
-use lib.ListN.{length}
-use Rattle.lexeme.specs.inner.Coded.{code_of, fixed_number}
+use Rattle.lexeme.specs.inner.Coded.{code_of}
 use Rattle.names.specs.inner.Held.{opened_in}
 use Rattle.instruction.specs.Instructions.{encode}
 use Rattle.compiler.specs.declared.walk.Walk.{Walk}
@@ -18,12 +16,11 @@ use Rattle.compiler.specs.declared.walk.Read.TheVariants.{Done}
 use Rattle.compiler.specs.inner.Steps.{moved_to, one_instruction, Advances, Expects, before_body}
 use Rattle.compiler.specs.inner.Walks.{Ready, First, Reads, ReadsCommand, want_nested}
 use Rattle.compiler.proofs.Bodies.{lost_ahead, crossed, ready_first, reads_begun, ready_inside, Headed, head_small, ready_headed, body_leads, Bodied, body_small, end_small, guarded_read, so_far_closed, More, more_on}
-use Rattle.compiler.proofs.Commands.{command_way, guarded_way, block_way, block_so_far, guarded_refused, no_body, block_first, block_more, Starts, begins_nested, too_deep_begun}
+use Rattle.compiler.proofs.Commands.{command_way, guarded_way, block_way, block_so_far, guarded_refused, no_body, block_first, block_more, begins_nested, too_deep_begun}
 use Rattle.compiler.proofs.Lays.{lays_single}
-use Rattle.compiler.proofs.Looked.{flag_off, flag_on}
 use Rattle.compiler.proofs.Names.{operand_is, ready_opened}
 use Rattle.compiler.proofs.Passes.{condition_way}
-use Rattle.compiler.proofs.Replies.{Got, got, done, Said, said_got, said_barred, said_begun, read_to, stopped, past, unread, code_fits, ready_got}
+use Rattle.compiler.proofs.Replies.{Got, got, done, Said, said_got, said_barred, said_begun, stopped, past, unread, code_fits, ready_got}
 use Rattle.compiler.proofs.command.+block_body_command_guarded.Goals as goal
 
 -- the commands of a block so far, when the loop begins a round, and when they were read

@@ -1,19 +1,16 @@
 -- The readers of expressions, terms and factors meet their contracts. Assumes nothing.
-use Prim.Native.Nat.{ℕ, suc, ◌+◌, ◌-◌, ◌*◌, ◌<◌}
+use Prim.Native.Nat.{ℕ, suc, ◌-◌, ◌<◌}
 use mathlib.Core.Path.{◌≡◌, refl, sym, ap, subst, ◌∙◌}
 use mathlib.Core.List.{List, [], ◌∷◌}
 use mathlib.Core.Bool.{true}
 use native.Mathlib.Nat.{le_refl}
 use native.Mathlib.Omega.{arith}
-use borrow.Author.Rules.{rules}
 use mir.Syntax.{w32}
 use mir.Facts.{to_z-of_z}
 use lib.IntN.{ℤ, pos}
 use Rattle.lexeme.specs.Lexemes.{Name, close_round, open_round}
 use Rattle.lexeme.specs.inner.Coded.{code_of, kind_of, fixed_number}
-use Rattle.lexeme.specs.declared.Kind.{Kind}
 use Rattle.lexeme.specs.declared.Kind.TheVariants as kind
-use Rattle.lexeme.specs.contracts.Kind.{the_type}
 use Rattle.sentence.specs.Sentences as S
 use Rattle.sentence.specs.Sentences.{Sen, Sign, plus, minus, sign}
 use Rattle.sentence.proofs.Reader.{is_sign, is_mul}
@@ -22,16 +19,16 @@ use Rattle.compiler.specs.declared.walk.Walk.{Walk}
 use Rattle.compiler.specs.declared.walk.Gives.{Gives}
 use Rattle.compiler.specs.declared.walk.Read.{Read}
 use Rattle.compiler.specs.declared.walk.Read.TheVariants.{Done, Refused}
-use Rattle.compiler.specs.inner.Steps.{NoOperand, moved_to, one_instruction, noted_walk, cell_of, cell_number, Past, Advances, Expects}
+use Rattle.compiler.specs.inner.Steps.{moved_to, one_instruction, noted_walk, cell_of, cell_number, Past, Advances, Expects}
 use Rattle.tables.specs.inner.Tables.{put, operand_of}
 use Rattle.compiler.specs.inner.Walks.{Reads, ReadsFactor, Ready, Lays, name_of}
 use Rattle.compiler.proofs.Lays.{trail, lead, lays_literal, lays_bracket, lays_first, lays_unsigned, lays_signed_plus, lays_signed_minus}
 use Rattle.compiler.proofs.Names.{noted_is, lays_variable}
-use Rattle.compiler.proofs.Looked.{flag_off, flag_on, going, literal_goes, name_goes, signs, IsOne, is_one}
+use Rattle.compiler.proofs.Looked.{going, literal_goes, name_goes, signs, IsOne, is_one}
 use Rattle.compiler.proofs.Reading.{met}
 use Rattle.compiler.proofs.Passes.{factor_way, term_so_far, term_way, first_term_way, expression_way, literal_factor, variable_factor, no_factor, bracket_too_deep, bracket_refused, bracket_closed, bracket_unclosed, term_first, term_whole, unsigned_leads, signed_leads, expression_whole, lost_first}
 use Rattle.compiler.proofs.Reading.{Way}
-use Rattle.compiler.proofs.Replies.{Got, got, done, Said, said_got, said_barred, said, said_begun, to_go, barred, stopped, handed_on, followed_read, past, gives_need, unread, expected, code_fits, ready_past, ready_got, fits_read, term_joins, expression_joins, right_lost, right_less, Rounds, round_on}
+use Rattle.compiler.proofs.Replies.{Got, got, done, Said, said_got, said_barred, said, said_begun, barred, stopped, handed_on, followed_read, past, gives_need, unread, expected, code_fits, ready_past, ready_got, fits_read, term_joins, expression_joins, right_lost, right_less, Rounds, round_on}
 use Rattle.compiler.proofs.expression.+bracket_expression_factor_first_term_term.Goals as goal
 
 -- one nesting more than is allowed inside is what is allowed

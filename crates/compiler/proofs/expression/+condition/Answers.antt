@@ -1,10 +1,9 @@
 -- `compiler::expression::condition` meets its contract. Assumes nothing.
-use Prim.Native.Nat.{ℕ, ◌-◌, ◌<◌}
+use Prim.Native.Nat.{ℕ}
 use mathlib.Core.Path.{◌≡◌, sym, subst, ◌∙◌}
 use mathlib.Core.List.{List, [], ◌∷◌}
 use native.Mathlib.Nat.{le_refl}
 use native.Mathlib.Omega.{arith}
-use borrow.Author.Rules.{rules}
 use lib.IntN.{ℤ, pos}
 use Rattle.lexeme.specs.Lexemes.{Name, NOT}
 use Rattle.lexeme.specs.inner.Coded.{code_of, fixed_number}
