@@ -19,10 +19,9 @@ use Rattle.kit.specs.Kit as Kit
 use Rattle.bench.proofs.Rows as Rows
 use Rattle.bench.proofs.Rows.{rows}
 use Rattle.bench.specs.Examples as Examples
-use Rattle.bench.proofs.yield_as_expected.Statement.{statement}
-use Rattle.bench.proofs.yield_as_expected.Tie as tie
+use Rattle.bench.proofs.yield_as_expected.Goals as goal
 
-returns : tie.Need-returns
+pub returns : goal.returns
 returns c =
     unfold
     Answers.number Answers.pass
@@ -40,6 +39,3 @@ returns c =
     Compiled.code_of_text Compiled.need_of Compiled.over_cells Measured.at_most Measured.measured Judging.short_enough Judging.judged Kit.worked_out
     Examples.yield Examples.by_machine Examples.by_sentences Rows.machine_row Rows.sentences_row
     in rows _ _ refl refl
-
-pub yield_as_expected_spec : {M : Type 1} → statement M
-yield_as_expected_spec = tie.close (tie.spec returns)
