@@ -1,0 +1,11 @@
+-- What is read, said and written is what stands in the buffers. Assumes nothing.
+use mathlib.Core.Path.{sym}
+use lib.Seq.{length-take-le}
+use Rattle.tells.proofs.Pages.{on_page}
+use Rattle.lessons.proofs.run.Goals as goal
+
+pub slice_bounds-page-end : goal.slice_bounds-page-end
+slice_bounds-page-end c = on_page c.station-s.ensures.so.says
+
+pub slice_bounds-write_all-end : goal.slice_bounds-write_all-end
+slice_bounds-write_all-end c = sym (length-take-le _ _ (on_page c.station-s.ensures.so.says))
