@@ -1,7 +1,8 @@
 // The programs and the outside: their files are read, what they say is written, and what goes wrong there is told.
 #![tactic(auto)]
 
-ghost use Rattle.std.specs.Prelude.{length};
+ghost use Rattle.std.specs.Prelude.{◌≡◌, ◌⊎◌, length};
+ghost use Rattle.std.specs.Process.{exit_status};
 ghost use Rattle.input.specs.Received.{Receives};
 ghost use Rattle.input.specs.Within.{Within};
 ghost use Rattle.desk.specs.Lessons.{Brings};
@@ -18,12 +19,16 @@ pub const TROUBLE: u8 = 2;
 const PATH: usize = 4096;
 
 // Where `./o` hears the status.
-pub fn end_with(status: u8) -> ExitCode {
+pub fn end_with(status: u8) -> ExitCode
+    ensures { exit_status result ≡ status }
+{
     ExitCode::from(status)
 }
 
 // What is wrong, with the system's own reason. Where nobody hears it, the status still tells.
-pub fn trouble(rt: &HostRuntime, what: &[u8], why: &Error) -> ExitCode {
+pub fn trouble(rt: &HostRuntime, what: &[u8], why: &Error) -> ExitCode
+    ensures { exit_status result ≡ TROUBLE }
+{
     let _heard = say_trouble(rt, what, why);
     end_with(TROUBLE)
 }
@@ -95,7 +100,9 @@ pub fn read_lesson(rt: &HostRuntime, text: &mut [u8], numbers: &mut [i32]) -> Le
 }
 
 // Writes what a program says, and answers its status; a write that fails is trouble, since nobody got what was said.
-pub fn deliver(rt: &HostRuntime, out: &[u8], err: &[u8], status: u8) -> ExitCode {
+pub fn deliver(rt: &HostRuntime, out: &[u8], err: &[u8], status: u8) -> ExitCode
+    ensures { (exit_status result ≡ status) ⊎ (exit_status result ≡ TROUBLE) }
+{
     if let Err(why) = rt.stdout().write_all(out) {
         return trouble(rt, b"standard output", &why);
     }
