@@ -8,32 +8,30 @@ ghost use Rattle.base.specs.inner.Kinds.{such};
 ghost use Rattle.base.specs.Answers.{number};
 
 // Why a text is refused: document 01, "Refused texts".
-#[derive(Clone, Copy)]
+#[derive(Clone, Copy, PartialEq, Eq, Debug)]
 pub enum Refusal {
-    TooLong,
-    NoLexeme,
-    TooLarge,
-    NoProgram,
-    TooDeep,
-    Undeclared,
-    TooManyDeclared,
-    TooMuchCode,
+    TooLong = 1,
+    NoLexeme = 2,
+    TooLarge = 3,
+    NoProgram = 4,
+    TooDeep = 5,
+    Undeclared = 6,
+    TooManyDeclared = 7,
+    TooMuchCode = 8,
+}
+
+// A refusal: why, and its place.
+#[derive(Clone, Copy, PartialEq, Eq, Debug)]
+pub struct Refused {
+    pub why: Refusal,
+    pub place: usize,
 }
 
 // The paper's number of a refusal.
 pub fn number(why: Refusal) -> u8
     ensures { result ≡ number why }
 {
-    match why {
-        Refusal::TooLong => 1,
-        Refusal::NoLexeme => 2,
-        Refusal::TooLarge => 3,
-        Refusal::NoProgram => 4,
-        Refusal::TooDeep => 5,
-        Refusal::Undeclared => 6,
-        Refusal::TooManyDeclared => 7,
-        Refusal::TooMuchCode => 8,
-    }
+    why as u8
 }
 
 // Kinds of bytes: what a run is made of, and what a word begins with.
