@@ -1,19 +1,15 @@
 -- `print` meets its contract. Assumes nothing.
-use native.Mathlib.Omega.{arith}
-use Rattle.rooms.proofs.Rooms.{none_fits, without, line_does_not_fit, with_line}
+use Rattle.rooms.proofs.Rooms.{line_does_not_fit, with_line, none_does_not_fit, without}
 use Rattle.rooms.proofs.print.Goals as goal
 
-pub returns-then-room-at : goal.returns-then-room-at
-returns-then-room-at c = none_fits c.args.bytes.now c.args.room.now c.args.at c.args.line (omega (arith, c.if-room-at.true))
-
-pub returns-then-free-bytes : goal.returns-then-free-bytes
-returns-then-free-bytes c = none_fits c.args.bytes.now c.args.room.now c.args.at c.args.line (omega (arith, c.if-free-bytes.true, c.if-room-at.false))
-
-pub returns-then-free-bytes-2 : goal.returns-then-free-bytes-2
-returns-then-free-bytes-2 c = line_does_not_fit c.args.bytes.now c.args.room.now c.args.at c.args.line c.if-line.true (omega (arith, c.if-free-bytes-2.true, c.if-free-bytes.false, c.if-room-at.false))
+pub returns-then-room-end : goal.returns-then-room-end
+returns-then-room-end c = line_does_not_fit _ _ _ _ c.in_ok-end.ensures.1 _ c.if-line.true c.if-room-end.true
 
 pub returns-then-line : goal.returns-then-line
-returns-then-line c = with_line c.args.bytes.now c.args.room.now c.args.at c.args.line c.if-line.true _ (omega (arith, c.if-free-bytes-2.false, c.if-free-bytes.false, c.if-room-at.false)) c.copy.ensures
+returns-then-line c = rw c.copy_from_slice.ensures.after (with_line _ _ _ _ c.in_ok-end.ensures.1 _ c.if-line.true c.if-room-end.false)
+
+pub returns-then-room-end-2 : goal.returns-then-room-end-2
+returns-then-room-end-2 c = none_does_not_fit _ _ _ _ c.in_ok-end.ensures.1 _ c.if-line.false c.if-room-end-2.true
 
 pub returns : goal.returns
-returns c = without c.args.bytes.now c.args.room.now c.args.at c.args.line c.if-line.false _ (omega (arith, c.if-free-bytes.false, c.if-room-at.false)) c.copy-2.ensures
+returns c = rw c.copy_from_slice-2.ensures.after (without _ _ _ _ c.in_ok-end.ensures.1 _ c.if-line.false c.if-room-end-2.false)

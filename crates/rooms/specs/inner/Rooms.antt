@@ -1,7 +1,5 @@
 -- What it is to print into a room: the bytes stand from a place on with nothing else changed, or they do not fit and nothing is changed.
-use Rattle.std.specs.Prelude.{◌≡◌, List, [], ◌∷◌, ◌++◌, Bool, true, false, cond, ℕ, ◌+◌, leb, length, take, drop}
-use Rattle.rooms.specs.declared.Printed.{Printed}
-use Rattle.rooms.specs.declared.Printed.TheVariants.{UpTo, DoesNotFit}
+use Rattle.std.specs.Prelude.{◌≡◌, List, [], ◌∷◌, ◌++◌, Bool, true, false, cond, ℕ, ◌+◌, leb, length, take, drop, Option, Some, None}
 
 -- bytes, and byte 10 after them if it is asked for
 unfoldable pub said : Bool → List ℕ → List ℕ
@@ -12,6 +10,7 @@ said false bs = bs
 abbrev pub with_bytes : List ℕ → ℕ → List ℕ → List ℕ
 with_bytes room at bs = take at room ++ bs ++ drop (at + length bs) room
 
-pub record Prints (bs room : List ℕ) (at : ℕ) (r : Printed) (room' : List ℕ) : Type 0 where
-  pub answer : r ≡ cond (leb (at + length bs) (length room)) (UpTo (at + length bs)) DoesNotFit
+-- what is answered is the place after the bytes, where they fit
+pub record Prints (bs room : List ℕ) (at : ℕ) (r : Option ℕ) (room' : List ℕ) : Type 0 where
+  pub answer : r ≡ cond (leb (at + length bs) (length room)) (Some (at + length bs)) None
   pub bytes : room' ≡ cond (leb (at + length bs) (length room)) (with_bytes room at bs) room
