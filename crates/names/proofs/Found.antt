@@ -13,8 +13,7 @@ use Rattle.base.specs.inner.Parts.{part}
 use Rattle.base.proofs.Words.{same_equal}
 use Rattle.names.specs.Names.{Declaration}
 use Rattle.names.specs.inner.Held.{room, held, visible_in, latest}
-use Rattle.names.specs.declared.Cell.{Cell}
-use Rattle.names.specs.declared.Cell.TheVariants.{At, Nowhere}
+use Rattle.std.specs.Prelude.{Option, Some, None}
 
 -- a word with another last letter
 module _ (text : List ℕ) (e : ℕ) (word : List ℕ) (within : e ≤ length text) (some : 0 < length word) (p : ℕ) where
@@ -33,8 +32,8 @@ module _ (text : List ℕ) (e : ℕ) (word : List ℕ) (within : e ≤ length te
       by false s = refl
 
 -- the cell of a list's first declaration, or of a later one
-abbrev picked : Declaration → List Declaration → List ℕ → Bool → Cell
-picked d ds word t = elim t [ true ↦ At d.cell | false ↦ latest ds word ]
+abbrev picked : Declaration → List Declaration → List ℕ → Bool → Option ℕ
+picked d ds word t = elim t [ true ↦ Some d.cell | false ↦ latest ds word ]
 
 module _ (text names : List ℕ) where
   pub visible_suc : (k : ℕ) → k < (room names) → visible_in text names (suc k) ≡ held text names k ∷ visible_in text names k
@@ -54,7 +53,7 @@ module _ (text names : List ℕ) where
   pub found_room : (v k : ℕ) (word other : List ℕ) → k ≡ min v (room names) → word ≡ other → latest (visible_in text names k) word ≡ latest (visible_in text names v) other
   found_room v k word other h e = rw (h, e, visible_room v)
 
-  pub found_none : (word : List ℕ) (k : ℕ) → k ≤ 0 → Nowhere ≡ latest (visible_in text names k) word
+  pub found_none : (word : List ℕ) (k : ℕ) → k ≤ 0 → None ≡ latest (visible_in text names k) word
   unfolding visible_in latest
   found_none word k h = let z : k ≡ 0 = omega arith in rw z
 
@@ -66,7 +65,7 @@ module _ (text names : List ℕ) where
         let e : k ≡ suc (k - 1) = omega arith in
         ap (λ (j : ℕ). latest (visible_in text names j) word) e ∙ (ap (λ (l : List Declaration). latest l word) (visible_suc (k - 1) (omega arith)) ∙ ap (picked (held text names (k - 1)) (visible_in text names (k - 1)) word) h)
 
-    pub found_last : same (held text names (k - 1)).spelled word ≡ true → At (held text names (k - 1)).cell ≡ latest (visible_in text names k) word
+    pub found_last : same (held text names (k - 1)).spelled word ≡ true → Some (held text names (k - 1)).cell ≡ latest (visible_in text names k) word
     found_last h = sym (last_visible true h)
 
     pub found_before : same (held text names (k - 1)).spelled word ≡ false → latest (visible_in text names (k - 1)) word ≡ latest (visible_in text names k) word

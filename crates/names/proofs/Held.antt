@@ -19,8 +19,7 @@ use Rattle.names.specs.Names as N
 use Rattle.names.specs.Names.{Declaration, Known, nothing_declared, look_up, used, one_more, declared_here, opened, closed}
 use Rattle.names.specs.inner.Held.{counts, no_counts, with_counts, one_up, room, held, visible_in, scope_in, latest, declared_scope, entered, declared_in, opened_scope, opened_in, closed_scope, closed_in, Sound, Kept}
 use Rattle.names.specs.declared.Scope.{Scope}
-use Rattle.names.specs.declared.Cell.{Cell}
-use Rattle.names.specs.declared.Cell.TheVariants.{At, Nowhere}
+use Rattle.std.specs.Prelude.{Option, Some, None}
 use Rattle.names.proofs.Found.{visible_suc}
 
 -- ---- the beginning of a text
@@ -48,44 +47,44 @@ module _ (names : List ℕ) (none : counts names ≡ no_counts) where
 
 -- ---- a use
 
-abbrev answer : Name → N.Scope → Cell → Answer (Known ℕ)
-answer x s (At cell) = given (record { what = cell; scope = s })
-answer x s Nowhere = refused Undeclared x.place
+abbrev answer : Name → N.Scope → Option ℕ → Answer (Known ℕ)
+answer x s (Some cell) = given (record { what = cell; scope = s })
+answer x s None = refused Undeclared x.place
 
 looked_up : (x : Name) (s : N.Scope) (ds : List Declaration) → look_up ds x s ≡ answer x s (latest ds x.spelled)
 unfolding look_up latest
 looked_up x s [] = refl
 looked_up x s (d ∷ ds) = by (looked_up x s ds) (same d.spelled x.spelled)
   where
-    by : look_up ds x s ≡ answer x s (latest ds x.spelled) → (b : Bool) → elim b as (λ _. Answer (Known ℕ)) [ true ↦ given (record { what = d.cell; scope = s }) | false ↦ look_up ds x s ] ≡ answer x s (elim b as (λ _. Cell) [ true ↦ At d.cell | false ↦ latest ds x.spelled ])
+    by : look_up ds x s ≡ answer x s (latest ds x.spelled) → (b : Bool) → elim b as (λ _. Answer (Known ℕ)) [ true ↦ given (record { what = d.cell; scope = s }) | false ↦ look_up ds x s ] ≡ answer x s (elim b as (λ _. Option ℕ) [ true ↦ Some d.cell | false ↦ latest ds x.spelled ])
     by i true = refl
     by i false = i
 
 module _ (text names : List ℕ) (x : Name) where
-  pub used_at : (cell : ℕ) → latest (visible_in text names (counts names).visible) x.spelled ≡ At cell → used x (scope_in text names) ≡ given (record { what = cell; scope = scope_in text names })
+  pub used_at : (cell : ℕ) → latest (visible_in text names (counts names).visible) x.spelled ≡ Some cell → used x (scope_in text names) ≡ given (record { what = cell; scope = scope_in text names })
   unfolding used scope_in
   used_at cell h = looked_up x (scope_in text names) (visible_in text names (counts names).visible) ∙ ap (answer x (scope_in text names)) h
 
-  pub used_nowhere : latest (visible_in text names (counts names).visible) x.spelled ≡ Nowhere → used x (scope_in text names) ≡ refused Undeclared x.place
+  pub used_nowhere : latest (visible_in text names (counts names).visible) x.spelled ≡ None → used x (scope_in text names) ≡ refused Undeclared x.place
   unfolding used scope_in
   used_nowhere h = looked_up x (scope_in text names) (visible_in text names (counts names).visible) ∙ ap (answer x (scope_in text names)) h
 
 -- where the cells of visible declarations are below n, so is the one that is found
 module _ (text names : List ℕ) (n : ℕ) (word : List ℕ) where
-  found_below : (k : ℕ) → ((i : ℕ) → i < k → get_or names (5 + i * 4 + 2) 0 < n) → (cell : ℕ) → latest (visible_in text names k) word ≡ At cell → cell < n
+  found_below : (k : ℕ) → ((i : ℕ) → i < k → get_or names (5 + i * 4 + 2) 0 < n) → (cell : ℕ) → latest (visible_in text names k) word ≡ Some cell → cell < n
   unfolding visible_in held latest
   found_below zero low cell e = let z : ◌≡◌ {A = ℕ} 0 1 = cc in absurd (omega arith)
   found_below (suc k) low cell e = by (found_below k (λ i h. low i (omega arith)) cell) (ltb k (room names)) e
     where
-      first : (latest (visible_in text names k) word ≡ At cell → cell < n) → (b : Bool) → elim b as (λ _. Cell) [ true ↦ At (held text names k).cell | false ↦ latest (visible_in text names k) word ] ≡ At cell → cell < n
+      first : (latest (visible_in text names k) word ≡ Some cell → cell < n) → (b : Bool) → elim b as (λ _. Option ℕ) [ true ↦ Some (held text names k).cell | false ↦ latest (visible_in text names k) word ] ≡ Some cell → cell < n
       first rest true e = let h : (held text names k).cell ≡ cell = cc in omega (arith, low k (le_refl (suc k)))
       first rest false e = rest e
 
-      by : (latest (visible_in text names k) word ≡ At cell → cell < n) → (b : Bool) → latest (cond b (held text names k ∷ visible_in text names k) (visible_in text names k)) word ≡ At cell → cell < n
+      by : (latest (visible_in text names k) word ≡ Some cell → cell < n) → (b : Bool) → latest (cond b (held text names k ∷ visible_in text names k) (visible_in text names k)) word ≡ Some cell → cell < n
       by rest true e = first rest (same (held text names k).spelled word) e
       by rest false e = rest e
 
-pub found_low : (text names : List ℕ) (word : List ℕ) (cell : ℕ) → Sound names → latest (visible_in text names (counts names).visible) word ≡ At cell → cell < (counts names).declared
+pub found_low : (text names : List ℕ) (word : List ℕ) (cell : ℕ) → Sound names → latest (visible_in text names (counts names).visible) word ≡ Some cell → cell < (counts names).declared
 found_low text names word cell s e = found_below text names (counts names).declared word (counts names).visible s.low cell e
 
 -- ---- what stays so

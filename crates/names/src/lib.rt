@@ -2,7 +2,7 @@
 // The counts of a scope.
 #![tactic(auto)]
 
-#[derive(Clone, Copy)]
+#[derive(Clone, Copy, PartialEq, Eq, Debug, Default)]
 pub struct Scope {
     // The declarations still visible: so many of the list.
     pub visible: usize,
@@ -14,12 +14,6 @@ pub struct Scope {
     pub cells: usize,
     // How many blocks are open.
     pub blocks: usize,
-}
-
-#[derive(Clone, Copy)]
-pub enum Cell {
-    At(usize),
-    Nowhere,
 }
 
 // Numbers that the counts take at the head of the list.

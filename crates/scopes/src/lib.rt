@@ -7,7 +7,7 @@ ghost use Rattle.base.specs.Bytes.{same};
 ghost use Rattle.base.specs.inner.Parts.{part};
 ghost use Rattle.names.specs.inner.Held.{counts, room, with_counts, no_counts, one_up, held, visible_in, latest, declared_scope, entered, declared_in, opened_in, closed_in};
 
-use names::{COUNTS, Cell, ENTRY, Scope};
+use names::{COUNTS, ENTRY, Scope};
 
 // ---- the counts
 
@@ -15,16 +15,14 @@ use names::{COUNTS, Cell, ENTRY, Scope};
 fn get(names: &[usize], i: usize) -> usize
     ensures { result ≡ get_or names.now i 0 }
 {
-    if i < names.len() {
-        return names[i];
-    }
-    0
+    names.get(i).copied().unwrap_or(0)
 }
 
 // The i-th number of the list becomes v, if the list has it.
 fn put(names: &mut [usize], i: usize, v: usize)
     ensures { names.new ≡ set names.old i v }
 {
+    // Not by `get_mut`: after a slice's, a proof knows the length and no number.
     if i < names.len() {
         names[i] = v;
     }
@@ -42,6 +40,7 @@ pub fn counts(names: &[usize]) -> Scope
     }
 }
 
+#[tactic(auto, unfolding(names::specs::inner::Held::with_counts))]
 fn put_counts(names: &mut [usize], s: Scope)
     ensures { names.new ≡ with_counts names.old s }
 {
@@ -56,24 +55,15 @@ fn put_counts(names: &mut [usize], s: Scope)
 pub fn start(names: &mut [usize])
     ensures { names.new ≡ with_counts names.old no_counts }
 {
-    let s = Scope {
-        visible: 0,
-        declared: 0,
-        next_cell: 0,
-        cells: 0,
-        blocks: 0,
-    };
-    put_counts(names, s);
+    put_counts(names, Scope::default());
 }
 
 // One more, as far as numbers go.
+#[tactic(auto, unfolding(names::specs::inner::Held::one_up))]
 fn one_more(n: usize) -> usize
     ensures { result ≡ one_up n }
 {
-    if n < 18446744073709551615 {
-        return n + 1;
-    }
-    n
+    n.saturating_add(1)
 }
 
 // How many declarations the list has room for.
@@ -92,19 +82,14 @@ fn room(names: &[usize]) -> usize
 fn is_other(text: &[u8], e: usize, word: &[u8]) -> bool
     ensures { result ≡ true → (p : ℕ) → false ≡ same (part text.now p e) word.now }
 {
-    if word.len() == 0 {
-        return false;
-    }
-    if e == 0 {
-        return false;
-    }
-    if text.len() < e {
+    if word.is_empty() || e == 0 || text.len() < e {
         return false;
     }
     text[e - 1] != word[word.len() - 1]
 }
 
 // Whether the k-th declaration of the list is spelled like the word. Most end with another letter or digit, numbered ones too.
+#[tactic(auto, unfolding(names::specs::inner::Held::held))]
 fn is_named(text: &[u8], names: &[usize], k: usize, word: &[u8]) -> bool
     requires { k < room names.now }
     ensures { result ≡ same (held text.now names.now k).spelled word.now }
@@ -119,18 +104,18 @@ fn is_named(text: &[u8], names: &[usize], k: usize, word: &[u8]) -> bool
 }
 
 // The latest visible declaration of the name from the place p up to e.
-pub fn look_up(text: &[u8], names: &[usize], p: usize, e: usize) -> Cell
+#[tactic(auto, using(names::proofs::Found::found_room, names::proofs::Found::found_none, names::proofs::Found::found_last, names::proofs::Found::found_before), unfolding(names::specs::inner::Held::held))]
+pub fn look_up(text: &[u8], names: &[usize], p: usize, e: usize) -> Option<usize>
     ensures { result ≡ latest (visible_in text.now names.now (counts names.now).visible) (part text.now p e) }
 {
     let word = base::part(text, p, e);
-    let mut k = base::smaller(get(names, 0), room(names));
-    while 0 < k {
-        k -= 1;
+    let visible = get(names, 0).min(room(names));
+    for k in (0..visible).rev() {
         if is_named(text, names, k, word) {
-            return Cell::At(names[COUNTS + k * ENTRY + 2]);
+            return Some(names[COUNTS + k * ENTRY + 2]);
         }
     }
-    Cell::Nowhere
+    None
 }
 
 // ---- a declaration
@@ -141,13 +126,11 @@ fn enter(names: &mut [usize], k: usize, p: usize, e: usize, cell: usize, block: 
     ensures { names.new ≡ sets names.old (5 + k * 4) (p ∷ e ∷ cell ∷ block ∷ []) }
 {
     let at = COUNTS + k * ENTRY;
-    names[at] = p;
-    names[at + 1] = e;
-    names[at + 2] = cell;
-    names[at + 3] = block;
+    names[at..at + ENTRY].copy_from_slice(&[p, e, cell, block]);
 }
 
 // The list with one declaration more, where it has room.
+#[tactic(auto, unfolding(names::specs::inner::Held::entered))]
 fn entered(names: &mut [usize], p: usize, e: usize)
     ensures { names.new ≡ entered names.old p e }
 {
@@ -158,6 +141,7 @@ fn entered(names: &mut [usize], p: usize, e: usize)
 }
 
 // The counts after one declaration more.
+#[tactic(auto, unfolding(names::specs::inner::Held::declared_scope))]
 fn with_one_more(s: Scope) -> Scope
     ensures { result ≡ declared_scope s }
 {
@@ -166,11 +150,12 @@ fn with_one_more(s: Scope) -> Scope
         declared: one_more(s.declared),
         next_cell: one_more(s.next_cell),
         cells: one_more(s.cells),
-        blocks: s.blocks,
+        ..s
     }
 }
 
 // One declaration more, of the name from the place p up to e; or there are too many.
+#[tactic(auto, unfolding(names::specs::inner::Held::declared_in))]
 pub fn declare(names: &mut [usize], p: usize, e: usize) -> bool
     ensures value { result ≡ ltb (counts names.old).declared (room names.old) }
     ensures names_after { names.new ≡ declared_in names.old p e }
@@ -187,31 +172,25 @@ pub fn declare(names: &mut [usize], p: usize, e: usize) -> bool
 // ---- a scope's beginning and its end
 
 // A brace opens one, and so does the body of an IF or a WHILE.
+#[tactic(auto, unfolding(names::specs::inner::Held::opened_in, names::specs::inner::Held::opened_scope))]
 pub fn open(names: &mut [usize])
     ensures { names.new ≡ opened_in names.old }
 {
     let s = counts(names);
-    let t = Scope {
-        visible: s.visible,
-        declared: s.declared,
-        next_cell: s.next_cell,
-        cells: s.cells,
-        blocks: one_more(s.blocks),
-    };
-    put_counts(names, t);
+    let blocks = one_more(s.blocks);
+    put_counts(names, Scope { blocks, ..s });
 }
 
 // What it declared vanishes, where `before` was counted before it was opened.
+#[tactic(auto, unfolding(names::specs::inner::Held::closed_in, names::specs::inner::Held::closed_scope))]
 pub fn close(names: &mut [usize], before: Scope)
     ensures { names.new ≡ closed_in names.old before }
 {
     let s = counts(names);
     let t = Scope {
         visible: before.visible,
-        declared: s.declared,
-        next_cell: s.next_cell,
-        cells: s.cells,
         blocks: before.blocks,
+        ..s
     };
     put_counts(names, t);
 }

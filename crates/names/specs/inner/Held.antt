@@ -1,13 +1,11 @@
 -- How the code holds a scope: a list of numbers, five counts and then four for each declaration.
-use Rattle.std.specs.Prelude.{◌≡◌, List, [], ◌∷◌, true, false, cond, ℕ, zero, suc, ◌+◌, ◌*◌, ◌-◌, ◌/◌, ◌≤◌, ◌<◌, min, ltb, length, get_or}
+use Rattle.std.specs.Prelude.{◌≡◌, List, [], ◌∷◌, true, false, cond, ℕ, zero, suc, ◌+◌, ◌*◌, ◌-◌, ◌/◌, ◌≤◌, ◌<◌, min, ltb, length, get_or, Option, Some, None}
 use Rattle.std.proofs.lemmas.List.Edits.{sets}
 use Rattle.base.specs.Bytes.{same}
 use Rattle.base.specs.inner.Parts.{part}
 use Rattle.names.specs.Names as N
 use Rattle.names.specs.Names.{Declaration}
 use Rattle.names.specs.declared.Scope.{Scope}
-use Rattle.names.specs.declared.Cell.{Cell}
-use Rattle.names.specs.declared.Cell.TheVariants.{At, Nowhere}
 
 -- ---- the counts
 
@@ -47,9 +45,9 @@ scope_in text names = record { visible = visible_in text names (counts names).vi
 -- ---- a use
 
 -- the cell of the latest declaration that is spelled so
-unfoldable pub latest : List Declaration → List ℕ → Cell
-latest [] word = Nowhere
-latest (d ∷ ds) word = elim (same d.spelled word) [ true ↦ At d.cell | false ↦ latest ds word ]
+unfoldable pub latest : List Declaration → List ℕ → Option ℕ
+latest [] word = None
+latest (d ∷ ds) word = elim (same d.spelled word) [ true ↦ Some d.cell | false ↦ latest ds word ]
 
 -- ---- a declaration of the name from p up to e
 
