@@ -1,5 +1,6 @@
--- The limits as the definitions take them. The numbers stand in src/lib.rt; a contract hands them in, as `Limits.TEXT`.
+-- The limits as the definitions take them, and those that the contracts hand in: their numbers stand in src/lib.rt.
 use Rattle.std.specs.Prelude.{ℕ}
+use Rattle.limits.specs.declared.TheConstants.Limits.{TEXT, WORD, STRING, LITERAL, NESTING, DECLARATIONS, INSTRUCTIONS}
 
 -- those of a lexeme: refusal 3
 pub record Sizes : Type 0 where
@@ -20,3 +21,10 @@ pub record Limits : Type 0 where
   pub declarations : ℕ
   -- instructions of a text's code
   pub instructions : ℕ
+
+-- the paper's sizes, and its limits
+abbrev pub the_sizes : Sizes
+the_sizes = record { word = WORD; string = STRING; literal = LITERAL }
+
+abbrev pub the_limits : Limits
+the_limits = record { text = TEXT; sizes = the_sizes; nesting = NESTING; declarations = DECLARATIONS; instructions = INSTRUCTIONS }

@@ -2,6 +2,7 @@
 #![tactic(auto)]
 
 ghost use Rattle.std.specs.Prelude.{◌≡◌, ◌-◌, ◌≤◌, ltb, length};
+ghost use Rattle.limits.specs.Limits.{the_sizes};
 ghost use Rattle.lexeme.specs.Lexemes.{lexemes};
 ghost use Rattle.lexeme.specs.inner.Coded.{scanned, large};
 
@@ -19,7 +20,7 @@ pub fn too_long(text: &[u8]) -> bool
 // Whether a lexeme is too large: refusal 3.
 fn is_too_large(l: Lexeme) -> bool
     requires { l.place ≤ l.end }
-    ensures { result ≡ large (record { word = Limits.WORD; string = Limits.STRING; literal = Limits.LITERAL }) l.kind (l.end - l.place) }
+    ensures { result ≡ large the_sizes l.kind (l.end - l.place) }
 {
     let n = l.end - l.place;
     let kind = l.kind;
@@ -34,7 +35,7 @@ fn is_too_large(l: Lexeme) -> bool
 
 // The end of a whole text, or its leftmost refusal of 2 and 3.
 pub fn scan(text: &[u8]) -> Found
-    ensures { result ≡ scanned text.now (lexemes (record { word = Limits.WORD; string = Limits.STRING; literal = Limits.LITERAL }) text.now) }
+    ensures { result ≡ scanned text.now (lexemes the_sizes text.now) }
 {
     let mut at = 0;
     loop {
