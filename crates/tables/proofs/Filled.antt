@@ -1,12 +1,13 @@
 -- Code written over a table of zeros is the code's numbers, then zeros. Assumes nothing.
-use Prim.Native.Nat.{ℕ, zero, suc, ◌+◌, ◌-◌, ◌*◌, ◌/◌, ◌≤◌, ◌<◌}
+use Prim.Native.Nat.{ℕ, suc, ◌+◌, ◌*◌, ◌/◌, ◌≤◌, ◌<◌}
 use mathlib.Core.Path.{◌≡◌, refl, ◌∙◌}
 use mathlib.Core.List.{List, [], ◌∷◌}
 use native.Mathlib.Omega.{arith}
 use borrow.Author.Tests.{lt-ltb}
 use lib.IntN.{ℤ, pos}
-use lib.ListN.{length, drop, replicate, length-replicate}
+use lib.ListN.{length, replicate, length-replicate}
 use lib.Seq.{sets, sets-eq, length-sets}
+use Rattle.std.proofs.lemmas.List.{drop-replicate}
 use Rattle.instruction.specs.Instructions.{Instruction, encode, numbers}
 use Rattle.instruction.proofs.Pairs.{Written, written, length_numbers}
 use Rattle.tables.specs.inner.Tables.{put, emit}
@@ -27,11 +28,6 @@ emit_sets (i ∷ is) table n h =
     (emit_sets is (sets table (n * 2) (encode i [])) (suc n) (rw length-sets (omega arith))
     ∙ rw (e, (is_pair i).2 [], (is_pair i).2 (numbers is)))
 
-drop_replicate : {A : Type 0} (v : A) (k n : ℕ) → drop k (replicate n v) ≡ replicate (n - k) v
-drop_replicate v zero n = let e : n - 0 ≡ n = omega arith in rw e
-drop_replicate v (suc k) zero = let e : 0 - suc k ≡ 0 = omega arith in rw e
-drop_replicate v (suc k) (suc n) = let e : suc n - suc k ≡ n - k = omega arith in rw e (drop_replicate v k n)
-
 pub filled_by_code : (n : ℕ) (is : List Instruction) → length is ≤ n / 2 → emit (replicate n (pos 0)) 0 is ≡ filled n (numbers is)
 unfolding filled
 filled_by_code n is h =
@@ -39,4 +35,4 @@ filled_by_code n is h =
     let e : 0 + k ≡ k = omega arith in
     emit_sets is (replicate n (pos 0)) 0 (rw length-replicate (omega arith))
     ∙ sets-eq (numbers is) (replicate n (pos 0)) 0 (rw length-replicate (omega (arith, length_numbers is)))
-    ∙ rw (e, drop_replicate (pos 0) k n)
+    ∙ rw (e, drop-replicate)

@@ -6,13 +6,14 @@ ghost use Rattle.instruction.specs.Instructions.{halt, jump_if_false, encode};
 ghost use Rattle.tables.specs.inner.Tables.{put, operand_of, opening};
 ghost use Rattle.tables.specs.inner.Settled.{settled_by};
 
-use base::Refusal;
+use base::{Refusal, Refused};
 use instruction::operations;
 use limits::Limits;
 
 // ---- the table
 
 // A pair of the table, if the table has that place.
+#[tactic(auto, unfolding(crate::specs::inner::Tables::put))]
 pub fn put(table: &mut [i32], n: usize, operation: i32, operand: i32)
     ensures { table.new ≡ put table.old n (operation ∷ operand ∷ []) }
 {
@@ -23,17 +24,17 @@ pub fn put(table: &mut [i32], n: usize, operation: i32, operand: i32)
 }
 
 // One `PushInt 0` for each cell.
+#[tactic(auto, using(crate::proofs::Stores::emit_on, crate::proofs::Stores::emit_out), unfolding(instruction::specs::Instructions::encode, crate::specs::inner::Tables::opening))]
 pub fn put_cells(table: &mut [i32], cells: usize)
     ensures { table.new ≡ opening cells table.old }
 {
-    let mut i = 0;
-    while i < cells {
+    for i in 0..cells {
         put(table, i, operations::PUSH_INT, 0);
-        i += 1;
     }
 }
 
 // The `Halt 0` that ends a Program's code.
+#[tactic(auto, unfolding(instruction::specs::Instructions::encode))]
 pub fn put_halt(table: &mut [i32], n: usize)
     ensures { table.new ≡ put table.old n (encode (halt 0) []) }
 {
@@ -41,16 +42,15 @@ pub fn put_halt(table: &mut [i32], n: usize)
 }
 
 // A number as an operand, if an operand can hold it.
+#[tactic(auto, unfolding(crate::specs::inner::Tables::operand_of))]
 pub fn operand(n: usize) -> i32
     ensures { result ≡ pos (operand_of n) }
 {
-    if n < 2147483648 {
-        return n as i32;
-    }
-    0
+    i32::try_from(n).unwrap_or(0)
 }
 
 // The jump past a body whose condition is false.
+#[tactic(auto, unfolding(instruction::specs::Instructions::encode))]
 pub fn put_jump_if_false(table: &mut [i32], n: usize, to: usize)
     ensures { table.new ≡ put table.old n (encode (jump_if_false (operand_of to)) []) }
 {
@@ -63,19 +63,13 @@ pub fn put_jump_if_false(table: &mut [i32], n: usize, to: usize)
 pub fn two_sided_need(left: usize, right: usize) -> usize
     ensures { result ≡ min (max left (1 + right)) 18446744073709551615 }
 {
-    if right < left {
-        return left;
-    }
-    if right == usize::MAX {
-        return right;
-    }
-    right + 1
+    left.max(right.saturating_add(1))
 }
 
 // ---- the answer
 
 // What is reported of an accepted text.
-#[derive(Clone, Copy)]
+#[derive(Clone, Copy, PartialEq, Eq, Debug)]
 pub struct Counts {
     pub instructions: usize,
     pub cells: usize,
@@ -83,40 +77,29 @@ pub struct Counts {
     pub need: usize,
 }
 
-#[derive(Clone, Copy)]
-pub enum Answer {
-    Accepted(Counts),
-    // Why, and the place.
-    Refused(Refusal, usize),
-}
-
-// The leftmost refusal of 6 and 7 so far.
-#[derive(Clone, Copy)]
-pub enum NameFault {
-    Nothing,
-    Is(Refusal, usize),
-}
-
-// What a whole Program comes to, whose Command's code ends at a place: a name's refusal, too much code, or its counts.
-pub fn settled(cells: usize, code: usize, need: usize, fault: NameFault) -> Answer
+// What a whole Program comes to, whose Command's code ends at a place: the leftmost refusal of a name, too much code, or its counts.
+#[tactic(auto, unfolding(crate::specs::inner::Settled::settled_by))]
+pub fn settled(
+    cells: usize,
+    code: usize,
+    need: usize,
+    fault: Option<Refused>,
+) -> Result<Counts, Refused>
     ensures { result ≡ settled_by Limits.INSTRUCTIONS cells code need fault }
 {
-    if let NameFault::Is(why, place) = fault {
-        return Answer::Refused(why, place);
+    if let Some(refused) = fault {
+        return Err(refused);
     }
-    if Limits::INSTRUCTIONS < cells {
-        return Answer::Refused(Refusal::TooMuchCode, 0);
-    }
-    if Limits::INSTRUCTIONS < code {
-        return Answer::Refused(Refusal::TooMuchCode, 0);
-    }
-    let size = cells + code + 1;
+    let size = cells.saturating_add(code).saturating_add(1);
     if Limits::INSTRUCTIONS < size {
-        return Answer::Refused(Refusal::TooMuchCode, 0);
+        return Err(Refused {
+            why: Refusal::TooMuchCode,
+            place: 0,
+        });
     }
-    Answer::Accepted(Counts {
+    Ok(Counts {
         instructions: size,
-        cells: cells,
-        need: need,
+        cells,
+        need,
     })
 }
