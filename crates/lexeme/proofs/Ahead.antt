@@ -13,7 +13,7 @@ use Rattle.lexeme.specs.inner.Coded.{kind_of, coded, placed, Ends, Number, Ahead
 use Rattle.lexeme.specs.declared.Kind.TheVariants as kind
 use borrow.Author.Tests.{ltb-false}
 use Rattle.lexeme.specs.declared.Lexeme.{Lexeme}
-use Rattle.lexeme.specs.declared.Found.TheVariants.{Is, Refused}
+use Rattle.std.specs.Prelude.{Ok, Err}
 use Rattle.lexeme.proofs.Decoded.{told_fixed}
 use Rattle.lexeme.proofs.Places.{code_lexeme, next_fits, next_nothing, next_no_end, next_placed}
 use Rattle.lexeme.proofs.Symbols.{Each, nil, ◌also◌}
@@ -21,7 +21,7 @@ use Rattle.lexeme.proofs.Scans.{from_one, from_large, from_none, from_refused}
 
 -- the lexemes ls stand from the place at on
 abbrev pub From : List ℕ → ℕ → List Placed → Type 0
-From text at ls = (l : Lexeme) × (Is l ≡ coded (next text at)) × Ahead text l ls
+From text at ls = (l : Lexeme) × (Ok l ≡ coded (next text at)) × Ahead text l ls
 
 pub no_refusal : {A : Type 0} {a : A} {why : Refusal} {p : ℕ} → refused why p ≡ given a → ⊥
 no_refusal h = let z : ◌≡◌ {A = ℕ} 0 1 = cc in omega arith
@@ -115,7 +115,7 @@ lexemes_ahead most text ls small is = row_ahead small (in_a_row most text ls is)
 pub record Begins (text : List ℕ) (l : Lexeme) (ls : List Placed) : Type 0 where
   pub rest : List Placed
   pub split : ls ≡ placed text l ∷ rest
-  pub more : (Ends l → ⊥) → (m : Lexeme) → Is m ≡ coded (next text l.end) → Ahead text m rest
+  pub more : (Ends l → ⊥) → (m : Lexeme) → Ok m ≡ coded (next text l.end) → Ahead text m rest
   pub alone : Ends l → rest ≡ []
   pub number : Number l
 
@@ -124,6 +124,6 @@ module _ {text : List ℕ} where
   begins (last l ends) = record { rest = []; split = refl; more = λ n m is. absurd (n ends); alone = λ _. refl; number = λ v h. let z : ◌≡◌ {A = ℕ} 0 1 = cc in absurd (omega arith) }
   begins (more l k ls n number is a) = record { rest = ls; split = refl; more = λ _ m h. let e : k ≡ m = cc in subst (λ (x : Lexeme). Ahead text x ls) e a; alone = λ ends. absurd (n ends); number = number }
 
-  pub not_ahead : {l : Lexeme} {ls : List Placed} → (Ends l → ⊥) → (why : Refusal) (p : ℕ) → Refused why p ≡ coded (next text l.end) → Ahead text l ls → ⊥
+  pub not_ahead : {l : Lexeme} {ls : List Placed} → (Ends l → ⊥) → (why : Refusal) (p : ℕ) → Err (record { why = why; place = p }) ≡ coded (next text l.end) → Ahead text l ls → ⊥
   not_ahead n why p h (last l ends) = n ends
   not_ahead n why p h (more l k ls _ _ is a) = let z : ◌≡◌ {A = ℕ} 0 1 = cc in omega arith

@@ -12,6 +12,7 @@ use lib.ListN.{length, get_or, drop, drop_of_length-le, length-drop}
 use lib.Seq.{drop-cons, length-take-le}
 use Rattle.base.specs.declared.Refusal.{Refusal}
 use Rattle.base.specs.declared.Refusal.TheVariants.{NoLexeme}
+use Rattle.base.specs.declared.Refused.{Refused}
 use Rattle.base.specs.Answers.{Answer, given, refused}
 use Rattle.base.specs.Bytes.{separator, small, letter, digit, letter_or_digit, no_quote, run, begins, all, same, value}
 use Rattle.base.specs.inner.Parts.{part}
@@ -23,7 +24,7 @@ use Rattle.lexeme.specs.inner.Coded.{kind_of, coded, code_of, what_of, told, pla
 use Rattle.lexeme.specs.declared.Kind.{Kind}
 use Rattle.lexeme.specs.declared.Kind.TheVariants as kind
 use Rattle.lexeme.specs.declared.Lexeme as code
-use Rattle.lexeme.specs.declared.Found.TheVariants.{Is, Refused}
+use Rattle.std.specs.Prelude.{Ok, Err}
 use Rattle.lexeme.proofs.Decoded.{fixed_back}
 use Rattle.lexeme.proofs.Symbols.{Each, nil, ◌also◌}
 
@@ -291,11 +292,11 @@ module _ (text : List ℕ) (at : ℕ) where
     one : (m : Placed) (e : ℕ) → next text at ≡ given (lexeme m e) → Reading (code_lexeme m e)
     none : next text at ≡ given (nothing (length text)) → Reading (code_lexeme (record { place = length text; what = fixed lexemes.end }) (length text))
 
-  pub reading : (l : code.Lexeme) → at ≤ length text → Is l ≡ coded (next text at) → Reading l
+  pub reading : (l : code.Lexeme) → at ≤ length text → Ok l ≡ coded (next text at) → Reading l
   unfolding coded kind_of
   reading l h is = by_answer (next text at) refl is
     where
-      by_answer : (a : Answer Next) → next text at ≡ a → Is l ≡ coded a → Reading l
+      by_answer : (a : Answer Next) → next text at ≡ a → Ok l ≡ coded a → Reading l
       by_answer (given (lexeme m e)) n i = let k : l ≡ code_lexeme m e = cc in rw k (one m e n)
       by_answer (given (nothing q)) n i =
           let k : l ≡ code_lexeme (record { place = q; what = fixed lexemes.end }) q = cc in
@@ -303,7 +304,7 @@ module _ (text : List ℕ) (at : ℕ) where
           rw (k, w) (none (rw w at n))
       by_answer (refused why q) n i = absurd (let z : ◌≡◌ {A = ℕ} 0 1 = cc in omega arith)
 
-  pub next_stands : (l : code.Lexeme) → at ≤ length text → Is l ≡ coded (next text at) → (at ≤ l.place) × Stands text l
+  pub next_stands : (l : code.Lexeme) → at ≤ length text → Ok l ≡ coded (next text at) → (at ≤ l.place) × Stands text l
   unfolding told kind_of
   next_stands l h is = by_reading (reading l h is)
     where
@@ -317,13 +318,15 @@ pub end_small : (most : Sizes) (l : code.Lexeme) (n : ℕ) → Ends l → large 
 unfolding large
 end_small most l n ends = ap (λ (k : Kind). large most k n) ends
 
-pub coded_refused : (a : Answer Next) (why : Refusal) (p : ℕ) → Refused why p ≡ coded a → a ≡ refused why p
+pub coded_refused : (a : Answer Next) (why : Refusal) (p : ℕ) → Err (record { why = why; place = p }) ≡ coded a → a ≡ refused why p
 unfolding coded
 coded_refused (given (lexeme m e)) why p h = cc
 coded_refused (given (nothing q)) why p h = cc
-coded_refused (refused w q) why p h = cc
+coded_refused (refused w q) why p h =
+    let e : record { why = why; place = p } ≡ record { why = w; place = q } = cc in
+    sym (ap (λ (r : Refused). refused r.why r.place) e)
 
 -- after the end nothing is refused
-pub refused_goes : {text : List ℕ} {l : code.Lexeme} {why : Refusal} {p : ℕ} → Stands text l → Refused why p ≡ coded (next text l.end) → Ends l → ⊥
+pub refused_goes : {text : List ℕ} {l : code.Lexeme} {why : Refusal} {p : ℕ} → Stands text l → Err (record { why = why; place = p }) ≡ coded (next text l.end) → Ends l → ⊥
 unfolding coded
 refused_goes {text} s h ends = let e = rw (s.last ends, next_last text) at h in let z : ◌≡◌ {A = ℕ} 0 1 = cc in omega arith

@@ -11,7 +11,7 @@ use Rattle.base.specs.Answers.{Answer, given, refused, pass}
 use Rattle.lexeme.specs.Lexemes.{fixed, end, Placed, lexeme, nothing, Sizes, next, too_large, sized, lexemes_from, lexemes}
 use Rattle.lexeme.specs.inner.Coded.{kind_of, coded, scanned, large, Ends}
 use Rattle.lexeme.specs.declared.Lexeme.{Lexeme}
-use Rattle.lexeme.specs.declared.Found.TheVariants.{Is, Refused}
+use Rattle.std.specs.Prelude.{Ok, Err}
 use Rattle.lexeme.proofs.Places.{Reading, one, none, reading, next_fits, next_no_end, next_large, coded_refused}
 
 module _ (most : Sizes) (text : List ℕ) where
@@ -51,24 +51,24 @@ module _ (most : Sizes) (text : List ℕ) where
   scanned_more m (refused why p) = refl
 
   module _ (at : ℕ) (s : Scan at) where
-    pub scan_refused : (why : Refusal) (p : ℕ) → Refused why p ≡ coded (next text at) → Refused why p ≡ scanned text (lexemes most text)
+    pub scan_refused : (why : Refusal) (p : ℕ) → Err (record { why = why; place = p }) ≡ coded (next text at) → Err (record { why = why; place = p }) ≡ scanned text (lexemes most text)
     unfolding scanned
     scan_refused why p h = ap (scanned text) (sym (from_refused s.fuel at why p (coded_refused (next text at) why p h))) ∙ s.same
 
-    module _ (small : most.literal < 4294967295) (l : Lexeme) (is : Is l ≡ coded (next text at)) where
-      pub scan_large : large most l.kind (l.end - l.place) ≡ true → Refused TooLarge l.place ≡ scanned text (lexemes most text)
+    module _ (small : most.literal < 4294967295) (l : Lexeme) (is : Ok l ≡ coded (next text at)) where
+      pub scan_large : large most l.kind (l.end - l.place) ≡ true → Err (record { why = TooLarge; place = l.place }) ≡ scanned text (lexemes most text)
       unfolding scanned large kind_of
       scan_large t = by_reading (reading text at l s.within is) t
         where
-          by_reading : {l : Lexeme} → Reading text at l → large most l.kind (l.end - l.place) ≡ true → Refused TooLarge l.place ≡ scanned text (lexemes most text)
+          by_reading : {l : Lexeme} → Reading text at l → large most l.kind (l.end - l.place) ≡ true → Err (record { why = TooLarge; place = l.place }) ≡ scanned text (lexemes most text)
           by_reading (one m e n) t = ap (scanned text) (sym (from_large s.fuel at m e n (sym (next_large text at m e n most small) ∙ t))) ∙ s.same
           by_reading (none n) t = absurd (let z : ◌≡◌ {A = ℕ} 0 1 = cc in omega arith)
 
-      pub scan_ends : Ends l → Is l ≡ scanned text (lexemes most text)
+      pub scan_ends : Ends l → Ok l ≡ scanned text (lexemes most text)
       unfolding scanned kind_of
       scan_ends ends = by_reading (reading text at l s.within is) ends
         where
-          by_reading : {l : Lexeme} → Reading text at l → Ends l → Is l ≡ scanned text (lexemes most text)
+          by_reading : {l : Lexeme} → Reading text at l → Ends l → Ok l ≡ scanned text (lexemes most text)
           by_reading (one m e n) ends = absurd (next_no_end text at m e n ends)
           by_reading (none n) ends = ap (scanned text) (sym (from_none s.fuel at (length text) n)) ∙ s.same
 

@@ -5,13 +5,11 @@ ghost use Rattle.std.specs.Prelude.{◌≡◌, ℕ};
 ghost use Rattle.lexeme.specs.Lexemes.{keywords, capital_word};
 ghost use Rattle.lexeme.specs.inner.Coded.{kind_of, fixed_number};
 
-use base::Refusal;
-
 pub mod fixed;
 mod keyword;
 
 // What a lexeme is. A literal has its value, or the largest number where that is beyond it. Of the fixed ones a symbol is its byte, `:=` that of its colon, and a keyword its number in alphabetical order, from 1; the end of the text is one too, 0: specs/inner/Coded.antt has the table.
-#[derive(Clone, Copy)]
+#[derive(Clone, Copy, PartialEq, Eq, Debug)]
 pub enum Kind {
     Literal(u32),
     Name,
@@ -21,18 +19,11 @@ pub enum Kind {
 }
 
 // A lexeme, the place of its first byte, and the place after it.
-#[derive(Clone, Copy)]
+#[derive(Clone, Copy, PartialEq, Eq, Debug)]
 pub struct Lexeme {
     pub kind: Kind,
     pub place: usize,
     pub end: usize,
-}
-
-// What stands next in a text: a lexeme, which may be the end, or why and where it is refused.
-#[derive(Clone, Copy)]
-pub enum Found {
-    Is(Lexeme),
-    Refused(Refusal, usize),
 }
 
 // The number of a fixed lexeme; 255 is none.

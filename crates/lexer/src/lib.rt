@@ -2,12 +2,23 @@
 #![tactic(auto)]
 
 ghost use Rattle.std.specs.Prelude.{◌≡◌, true, false, ◌+◌, ◌-◌, ◌<◌, min, length, drop};
+ghost use Rattle.base.specs.declared.Refusal.TheVariants.{NoLexeme};
 ghost use Rattle.base.specs.Bytes.{separator, small, letter, digit, letter_or_digit, run, begins, value};
 ghost use Rattle.lexeme.specs.Lexemes.{word, string_at, symbols, symbol, colon, next};
 ghost use Rattle.lexeme.specs.inner.Coded.{coded};
 
-use base::{Refusal, Such};
-use lexeme::{Found, Kind, Lexeme, fixed};
+use base::{Refusal, Refused, Such};
+use lexeme::{Kind, Lexeme, fixed};
+
+// What is no lexeme, refused at its place.
+fn no_lexeme(place: usize) -> Refused
+    ensures { result ≡ record { why = NoLexeme; place = place } }
+{
+    Refused {
+        why: Refusal::NoLexeme,
+        place,
+    }
+}
 
 // What a digit adds to the value of its word.
 fn worth(b: u8) -> u64
@@ -36,11 +47,11 @@ fn value_of(word: &[u8]) -> u32
 }
 
 // A word that begins with a small letter at p: a name, of all letters and digits that follow.
-fn name_at(text: &[u8], p: usize) -> Found
+fn name_at(text: &[u8], p: usize) -> Result<Lexeme, Refused>
     requires { begins small (drop p text.now) ≡ true }
     ensures { result ≡ coded (word p (run letter_or_digit (drop p text.now))) }
 {
-    Found::Is(Lexeme {
+    Ok(Lexeme {
         kind: Kind::Name,
         place: p,
         end: base::run_end(text, p, Such::LetterOrDigit),
@@ -48,47 +59,47 @@ fn name_at(text: &[u8], p: usize) -> Found
 }
 
 // A word that begins with a capital at p: all letters; one with a digit in it is mixed, and refused.
-fn capital_word_at(text: &[u8], p: usize) -> Found
+fn capital_word_at(text: &[u8], p: usize) -> Result<Lexeme, Refused>
     requires { (begins letter (drop p text.now) ≡ true) × (begins small (drop p text.now) ≡ false) }
     ensures { result ≡ coded (word p (run letter_or_digit (drop p text.now))) }
 {
     let e = base::run_end(text, p, Such::Letter);
     if !base::is_at(text, e, Such::Digit) {
-        return Found::Is(Lexeme {
+        return Ok(Lexeme {
             kind: lexeme::capital_word(&text[p..e]),
             place: p,
             end: e,
         });
     }
-    Found::Refused(Refusal::NoLexeme, p)
+    Err(no_lexeme(p))
 }
 
 // A word that begins with a digit at p: all digits; one with a letter in it is mixed, and refused.
-fn digits_at(text: &[u8], p: usize) -> Found
+fn digits_at(text: &[u8], p: usize) -> Result<Lexeme, Refused>
     requires { begins digit (drop p text.now) ≡ true }
     ensures { result ≡ coded (word p (run letter_or_digit (drop p text.now))) }
 {
     let e = base::run_end(text, p, Such::Digit);
     if !base::is_at(text, e, Such::Letter) {
-        return Found::Is(Lexeme {
+        return Ok(Lexeme {
             kind: Kind::Literal(value_of(&text[p..e])),
             place: p,
             end: e,
         });
     }
-    Found::Refused(Refusal::NoLexeme, p)
+    Err(no_lexeme(p))
 }
 
 // A string whose opening quote is at p.
-fn string_at(text: &[u8], p: usize) -> Found
+fn string_at(text: &[u8], p: usize) -> Result<Lexeme, Refused>
     requires { p < length text.now }
     ensures { result ≡ coded (string_at p (drop (p + 1) text.now)) }
 {
     let e = base::run_end(text, p + 1, Such::NoQuote);
     if text.len() <= e {
-        return Found::Refused(Refusal::NoLexeme, p);
+        return Err(no_lexeme(p));
     }
-    Found::Is(Lexeme {
+    Ok(Lexeme {
         kind: Kind::Str,
         place: p,
         end: e + 1,
@@ -96,25 +107,22 @@ fn string_at(text: &[u8], p: usize) -> Found
 }
 
 // A colon at p, with what follows it.
-fn colon_at(text: &[u8], p: usize) -> Found
+fn colon_at(text: &[u8], p: usize) -> Result<Lexeme, Refused>
     requires { p < length text.now }
     ensures { result ≡ coded (colon p (drop (p + 1) text.now)) }
 {
-    let q = p + 1;
-    if q < text.len() {
-        if text[q] == b'=' {
-            return Found::Is(Lexeme {
-                kind: Kind::Fixed(b':'),
-                place: p,
-                end: p + 2,
-            });
-        }
+    match text.get(p + 1) {
+        Some(b'=') => Ok(Lexeme {
+            kind: Kind::Fixed(b':'),
+            place: p,
+            end: p + 2,
+        }),
+        _ => Err(no_lexeme(p)),
     }
-    Found::Refused(Refusal::NoLexeme, p)
 }
 
 // A byte at p that is one of the fifteen characters, or no lexeme; q is the place after it.
-fn symbol_at(b: u8, p: usize, q: usize) -> Found
+fn symbol_at(b: u8, p: usize, q: usize) -> Result<Lexeme, Refused>
     requires { q ≡ p + 1 }
     ensures { result ≡ coded (symbol symbols p b) }
 {
@@ -133,12 +141,12 @@ fn symbol_at(b: u8, p: usize, q: usize) -> Found
         | b'['
         | b']'
         | b'{'
-        | b'}' => Found::Is(Lexeme {
+        | b'}' => Ok(Lexeme {
             kind: Kind::Fixed(b),
             place: p,
             end: q,
         }),
-        _ => Found::Refused(Refusal::NoLexeme, p),
+        _ => Err(no_lexeme(p)),
     }
 }
 
@@ -153,12 +161,12 @@ fn skip(text: &[u8], at: usize) -> usize
 }
 
 // The first lexeme at or after a place; where there is none, the end.
-pub fn next(text: &[u8], at: usize) -> Found
+pub fn next(text: &[u8], at: usize) -> Result<Lexeme, Refused>
     ensures { result ≡ coded (next text.now at) }
 {
     let p = skip(text, at);
     if text.len() <= p {
-        return Found::Is(Lexeme {
+        return Ok(Lexeme {
             kind: Kind::Fixed(fixed::END),
             place: p,
             end: p,

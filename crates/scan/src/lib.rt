@@ -6,8 +6,8 @@ ghost use Rattle.limits.specs.Limits.{the_sizes};
 ghost use Rattle.lexeme.specs.Lexemes.{lexemes};
 ghost use Rattle.lexeme.specs.inner.Coded.{scanned, large};
 
-use base::Refusal;
-use lexeme::{Found, Kind, Lexeme, fixed};
+use base::{Refusal, Refused};
+use lexeme::{Kind, Lexeme, fixed};
 use limits::Limits;
 
 // Whether a text is too long: refusal 1.
@@ -23,8 +23,7 @@ fn is_too_large(l: Lexeme) -> bool
     ensures { result ≡ large the_sizes l.kind (l.end - l.place) }
 {
     let n = l.end - l.place;
-    let kind = l.kind;
-    match kind {
+    match l.kind {
         Kind::Literal(v) => Limits::LITERAL < v,
         Kind::Name => Limits::WORD < n,
         Kind::Class => Limits::WORD < n,
@@ -34,21 +33,20 @@ fn is_too_large(l: Lexeme) -> bool
 }
 
 // The end of a whole text, or its leftmost refusal of 2 and 3.
-pub fn scan(text: &[u8]) -> Found
+pub fn scan(text: &[u8]) -> Result<Lexeme, Refused>
     ensures { result ≡ scanned text.now (lexemes the_sizes text.now) }
 {
     let mut at = 0;
     loop {
-        let found = lexer::next(text, at);
-        let Found::Is(l) = found else {
-            return found;
-        };
-        let kind = l.kind;
+        let l = lexer::next(text, at)?;
         if is_too_large(l) {
-            return Found::Refused(Refusal::TooLarge, l.place);
+            return Err(Refused {
+                why: Refusal::TooLarge,
+                place: l.place,
+            });
         }
-        if lexeme::fixed_of(kind) == fixed::END {
-            return found;
+        if l.kind == Kind::Fixed(fixed::END) {
+            return Ok(l);
         }
         at = l.end;
     }

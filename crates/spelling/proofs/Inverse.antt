@@ -17,7 +17,7 @@ use Rattle.lexeme.specs.Lexemes.{Quoted, Lexeme, lit, name, class, string, fixed
 use Rattle.lexeme.specs.inner.Coded.{code_of, kind_of, coded, what_of, told, Ends}
 use Rattle.lexeme.specs.declared.Kind.TheVariants as kind
 use Rattle.lexeme.specs.declared.Lexeme as code
-use Rattle.lexeme.specs.declared.Found.TheVariants.{Is}
+use Rattle.std.specs.Prelude.{Ok}
 use Rattle.lexeme.proofs.Decoded.{fixed_back}
 use Rattle.lexeme.proofs.Symbols.{Each, nil, ◌also◌}
 use Rattle.lexeme.proofs.Places.{by_test, word_some, here_cases, capital_cases, symbol_cases, Written, next_fits, Reading, one, none, reading}
@@ -202,7 +202,7 @@ module _ (text : List ℕ) (p e : ℕ) where
   digits (string q) v b k = let z : ◌≡◌ {A = ℕ} 0 1 = cc in absurd (omega arith)
   digits (fixed f) v b k = let z : ◌≡◌ {A = ℕ} 0 1 = cc in absurd (omega arith)
 
-module _ (text : List ℕ) (at : ℕ) (l : code.Lexeme) (within : at ≤ length text) (is : Is l ≡ coded (next text at)) where
+module _ (text : List ℕ) (at : ℕ) (l : code.Lexeme) (within : at ≤ length text) (is : Ok l ≡ coded (next text at)) where
   -- all but literals and the end stand in the text as they are always written
   pub as_it_stands : (Ends l → ⊥) → ((v : ℕ) → l.kind ≡ kind.Literal v → ⊥) → part text l.place l.end ≡ written (told text l)
   unfolding told kind_of

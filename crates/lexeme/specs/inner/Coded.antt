@@ -1,6 +1,7 @@
 -- How the code writes lexemes: its enums and numbers for those of the definitions, and the way back.
-use Rattle.std.specs.Prelude.{◌≡◌, List, [], ◌∷◌, ◌++◌, map, Bool, true, false, ℕ, ◌+◌, ◌-◌, ◌≤◌, ◌<◌, min, eqb, ltb, length}
+use Rattle.std.specs.Prelude.{◌≡◌, Result, Ok, Err, List, [], ◌∷◌, ◌++◌, map, Bool, true, false, ℕ, ◌+◌, ◌-◌, ◌≤◌, ◌<◌, min, eqb, ltb, length}
 use Prim.Native.Char.{code}
+use Rattle.base.specs.declared.Refused.{Refused}
 use Rattle.base.specs.Answers.{Answer, given, refused}
 use Rattle.base.specs.inner.Parts.{part}
 use Rattle.lexeme.specs.Lexemes.{Sizes, Symbol, symbols, Keyword, keywords, Fixed, becomes, equals_sign, comma, dot, greater_sign, less_sign, plus_sign, minus_sign, star, slash, open_round, close_round, open_square, close_square, open_brace, close_brace, CALL, CLASS, DO, ERROR, FIELDS, IF, INIT, INT, METHOD, NOT, OBJ, PRINTI, PRINTLNS, PRINTS, PROCEDURE, READ, RETURNS, SUBCLASSOF, THEN, USING, WHILE, end, lit, name, class, string, fixed, Placed, Next, lexeme, nothing, next}
@@ -8,8 +9,6 @@ use Rattle.lexeme.specs.Lexemes as lexemes
 use Rattle.lexeme.specs.declared.Kind.{Kind}
 use Rattle.lexeme.specs.declared.Kind.TheVariants as kind
 use Rattle.lexeme.specs.declared.Lexeme.{Lexeme}
-use Rattle.lexeme.specs.declared.Found.{Found}
-use Rattle.lexeme.specs.declared.Found.TheVariants.{Is, Refused}
 
 -- ---- to the code
 
@@ -63,15 +62,15 @@ kind_of (string s) = kind.Str
 kind_of (fixed f) = kind.Fixed (code_of f)
 
 -- nothing more is the end, which takes no byte
-unfoldable pub coded : Answer Next → Found
-coded (given (lexeme l e)) = Is (record { kind = kind_of l.what; place = l.place; end = e })
-coded (given (nothing p)) = Is (record { kind = kind.Fixed (code_of end); place = p; end = p })
-coded (refused why p) = Refused why p
+unfoldable pub coded : Answer Next → Result Lexeme Refused
+coded (given (lexeme l e)) = Ok (record { kind = kind_of l.what; place = l.place; end = e })
+coded (given (nothing p)) = Ok (record { kind = kind.Fixed (code_of end); place = p; end = p })
+coded (refused why p) = Err (record { why = why; place = p })
 
 -- how a scan ends: with the text's end, or with its leftmost refusal of 2 and 3
-unfoldable pub scanned : List ℕ → Answer (List Placed) → Found
-scanned text (given ls) = Is (record { kind = kind.Fixed (code_of end); place = length text; end = length text })
-scanned text (refused why p) = Refused why p
+unfoldable pub scanned : List ℕ → Answer (List Placed) → Result Lexeme Refused
+scanned text (given ls) = Ok (record { kind = kind.Fixed (code_of end); place = length text; end = length text })
+scanned text (refused why p) = Err (record { why = why; place = p })
 
 -- the number of a fixed lexeme; 255 is none
 unfoldable pub fixed_number : Kind → ℕ
@@ -134,4 +133,4 @@ Number l = (v : ℕ) → l.kind ≡ kind.Literal v → v ≤ 2147483647
 -- ls are the lexemes of the text from the code's lexeme l on
 pub data Ahead (text : List ℕ) : Lexeme → List Placed → Type 0 where
   last : (l : Lexeme) → Ends l → Ahead text l (placed text l ∷ [])
-  more : (l m : Lexeme) (ls : List Placed) → (Ends l → ⊥) → Number l → Is m ≡ coded (next text l.end) → Ahead text m ls → Ahead text l (placed text l ∷ ls)
+  more : (l m : Lexeme) (ls : List Placed) → (Ends l → ⊥) → Number l → Ok m ≡ coded (next text l.end) → Ahead text m ls → Ahead text l (placed text l ∷ ls)

@@ -25,4 +25,4 @@ returns-then-not-is_at c =
 
 pub returns : goal.returns
 unfolding such coded
-returns c = let n = sym c.is_at.ensures ∙ c.if-not-is_at.false in sym (ap coded (digits_mixed _ _ _ c.run_end-e.ensures c.requires n))
+returns c = let n = sym c.is_at.ensures ∙ c.if-not-is_at.false in rw c.no_lexeme.ensures (sym (ap coded (digits_mixed _ _ _ c.run_end-e.ensures c.requires n)))

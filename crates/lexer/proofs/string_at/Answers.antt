@@ -8,7 +8,7 @@ use Rattle.lexer.proofs.string_at.Goals as goal
 
 pub returns-then-text-e : goal.returns-then-text-e
 unfolding such coded
-returns-then-text-e c = ap coded (string_open _ _ _ c.run_end-e.ensures c.if-text-e.true)
+returns-then-text-e c = rw c.no_lexeme.ensures (ap coded (string_open _ _ _ c.run_end-e.ensures c.if-text-e.true))
 
 pub returns : goal.returns
 unfolding such coded kind_of found

@@ -5,24 +5,16 @@ use native.Mathlib.Omega.{arith}
 use Rattle.lexeme.specs.Lexemes.{symbols, symbol, found}
 use Rattle.lexeme.specs.inner.Coded.{coded, kind_of, code_of}
 use Rattle.lexeme.specs.declared.Kind.TheVariants.{Fixed}
-use Rattle.lexeme.specs.declared.Found.TheVariants.{Is}
+use Rattle.std.specs.Prelude.{Ok}
 use Rattle.lexeme.proofs.Symbols.{nil, ◌also◌, one_of, in_range, symbol_none}
 use Rattle.lexer.proofs.symbol_at.Goals as goal
 
 abbrev Said : ℕ → ℕ → Type 0
-Said p b = Is (record { kind = Fixed b; place = p; end = p + 1 }) ≡ coded (symbol symbols p b)
+Said p b = Ok (record { kind = Fixed b; place = p; end = p + 1 }) ≡ coded (symbol symbols p b)
 
 pub returns-in_default : goal.returns-in_default
 unfolding symbols coded
-returns-in_default c = ap coded (symbol_none c.args.p c.args.b ((λ e. omega arith) also (λ e. omega arith) also (λ e. omega arith) also (λ e. omega arith) also (λ e. omega arith) also (λ e. omega arith) also (λ e. omega arith) also (λ e. omega arith) also (λ e. omega arith) also (λ e. omega arith) also (λ e. omega arith) also (λ e. omega arith) also (λ e. omega arith) also (λ e. omega arith) also (λ e. omega arith) also nil))
-
-pub returns-in_default-2 : goal.returns-in_default-2
-unfolding symbols coded
-returns-in_default-2 c = ap coded (symbol_none c.args.p c.args.b ((λ e. omega arith) also (λ e. omega arith) also (λ e. omega arith) also (λ e. omega arith) also (λ e. omega arith) also (λ e. omega arith) also (λ e. omega arith) also (λ e. omega arith) also (λ e. omega arith) also (λ e. omega arith) also (λ e. omega arith) also (λ e. omega arith) also (λ e. omega arith) also (λ e. omega arith) also (λ e. omega arith) also nil))
-
-pub returns-in_default-3 : goal.returns-in_default-3
-unfolding symbols coded
-returns-in_default-3 c = ap coded (symbol_none c.args.p c.args.b ((λ e. omega arith) also (λ e. omega arith) also (λ e. omega arith) also (λ e. omega arith) also (λ e. omega arith) also (λ e. omega arith) also (λ e. omega arith) also (λ e. omega arith) also (λ e. omega arith) also (λ e. omega arith) also (λ e. omega arith) also (λ e. grind arith) also (λ e. grind arith) also (λ e. grind arith) also (λ e. grind arith) also nil))
+returns-in_default c = rw c.no_lexeme.ensures (ap coded (symbol_none c.args.p c.args.b ((λ e. grind arith) also (λ e. grind arith) also (λ e. grind arith) also (λ e. grind arith) also (λ e. grind arith) also (λ e. grind arith) also (λ e. grind arith) also (λ e. grind arith) also (λ e. grind arith) also (λ e. grind arith) also (λ e. grind arith) also (λ e. grind arith) also (λ e. grind arith) also (λ e. grind arith) also (λ e. grind arith) also nil)))
 
 pub returns-in-61 : goal.returns-in-61
 unfolding symbols symbol found coded kind_of code_of
