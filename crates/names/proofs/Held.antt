@@ -73,7 +73,7 @@ module _ (text names : List ℕ) (x : Name) where
 module _ (text names : List ℕ) (n : ℕ) (word : List ℕ) where
   found_below : (k : ℕ) → ((i : ℕ) → i < k → get_or names (5 + i * 4 + 2) 0 < n) → (cell : ℕ) → latest (visible_in text names k) word ≡ Some cell → cell < n
   unfolding visible_in held latest
-  found_below zero low cell e = let z : ◌≡◌ {A = ℕ} 0 1 = cc in absurd (omega arith)
+  found_below zero low cell e = cc
   found_below (suc k) low cell e = by (found_below k (λ i h. low i (omega arith)) cell) (ltb k (room names)) e
     where
       first : (latest (visible_in text names k) word ≡ Some cell → cell < n) → (b : Bool) → elim b as (λ _. Option ℕ) [ true ↦ Some (held text names k).cell | false ↦ latest (visible_in text names k) word ] ≡ Some cell → cell < n
@@ -108,13 +108,6 @@ module _ (text names names' : List ℕ) (long : length names' ≡ length names) 
   same_visible (suc k) h =
       let at = 5 + k * 4 in
       rw (long, h at (omega arith) (omega arith), h (at + 1) (omega arith) (omega arith), h (at + 2) (omega arith) (omega arith), h (at + 3) (omega arith) (omega arith), same_visible k (λ i f q. h i f (omega arith)))
-
--- ---- past the end of the list
-
-pub set_past : (l : List ℕ) (i v : ℕ) → length l ≤ i → l ≡ set l i v
-set_past [] i v h = refl
-set_past (x ∷ xs) zero v h = absurd (omega arith)
-set_past (x ∷ xs) (suc i) v h = ap (λ (r : List ℕ). x ∷ r) (set_past xs i v (omega arith))
 
 -- ---- runs of stores: what stands before or after them stays, and each can be read again
 
@@ -272,7 +265,7 @@ module _ (names : List ℕ) (p e : ℕ) (sound : Sound names) where
 -- ---- a scope's beginning and its end
 
 module _ (names : List ℕ) (sound : Sound names) (few : (counts names).blocks < 1000000) where
-  pub opened_counts : counts (opened_in names) ≡ record { visible = (counts names).visible; declared = (counts names).declared; next_cell = (counts names).next_cell; cells = (counts names).cells; blocks = suc (counts names).blocks }
+  pub opened_counts : counts (opened_in names) ≡ record (counts names) { blocks = suc (counts names).blocks }
   unfolding opened_in opened_scope
   opened_counts = with_is names (opened_scope (counts names)) sound.head ∙ rw (counts_on (counts names).blocks (omega arith)) refl
 

@@ -66,10 +66,10 @@ declared_here limit x = λ s. cond (ltb s.declared limit) (given (record { what 
 
 -- a scope is opened by a brace, and by the body of an IF or a WHILE; its declarations vanish at its end
 unfoldable pub opened : Scope → Scope
-opened s = record { visible = s.visible; declared = s.declared; next_cell = s.next_cell; cells = s.cells; blocks = suc s.blocks }
+opened s = record s { blocks = suc s.blocks }
 
 unfoldable pub closed : Scope → Scope → Scope
-closed before s = record { visible = before.visible; declared = s.declared; next_cell = s.next_cell; cells = s.cells; blocks = before.blocks }
+closed before s = record s { visible = before.visible; blocks = before.blocks }
 
 unfoldable pub scoped : {A : Type 0} → Naming A → Naming A
 scoped m = λ s. pass (m (opened s)) (λ a. given (record { what = a.what; scope = closed s a.scope }))

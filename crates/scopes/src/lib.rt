@@ -19,6 +19,7 @@ fn get(names: &[usize], i: usize) -> usize
 }
 
 // The i-th number of the list becomes v, if the list has it.
+#[tactic(auto, using(std::proofs::lemmas::List::set_past))]
 fn put(names: &mut [usize], i: usize, v: usize)
     ensures { names.new ≡ set names.old i v }
 {

@@ -65,13 +65,13 @@ declared_in names p e = cond (ltb (counts names).declared (room names)) (with_co
 -- ---- a scope's beginning and its end
 
 unfoldable pub opened_scope : Scope → Scope
-opened_scope s = record { visible = s.visible; declared = s.declared; next_cell = s.next_cell; cells = s.cells; blocks = one_up s.blocks }
+opened_scope s = record s { blocks = one_up s.blocks }
 
 unfoldable pub opened_in : List ℕ → List ℕ
 opened_in names = with_counts names (opened_scope (counts names))
 
 unfoldable pub closed_scope : Scope → Scope → Scope
-closed_scope before s = record { visible = before.visible; declared = s.declared; next_cell = s.next_cell; cells = s.cells; blocks = before.blocks }
+closed_scope before s = record s { visible = before.visible; blocks = before.blocks }
 
 unfoldable pub closed_in : List ℕ → Scope → List ℕ
 closed_in names before = with_counts names (closed_scope before (counts names))
