@@ -2,10 +2,9 @@
 #![tactic(auto)]
 
 ghost use Rattle.std.specs.Prelude.{◌≡◌, ◌++◌};
+ghost use Rattle.limits.specs.Limits.{the_limits};
 ghost use Rattle.bench.specs.Examples.{EachYields, starred, bodies, slips, from_document_001};
 
-use limits::Limits;
-
 pub fn yield_as_expected()
-    ensures { EachYields (record { text = Limits.TEXT; sizes = record { word = Limits.WORD; string = Limits.STRING; literal = Limits.LITERAL }; nesting = Limits.NESTING; declarations = Limits.DECLARATIONS; instructions = Limits.INSTRUCTIONS }) (starred ++ (bodies ++ (slips ++ from_document_001))) }
+    ensures { EachYields the_limits (starred ++ (bodies ++ (slips ++ from_document_001))) }
 {}

@@ -8,6 +8,7 @@ mod operator;
 mod walk;
 
 ghost use Rattle.std.specs.Prelude.{◌≡◌, ◌≤◌, length};
+ghost use Rattle.limits.specs.Limits.{the_limits};
 ghost use Rattle.compiler.specs.Answers.{answered, Compiles};
 ghost use Rattle.compiler.specs.Compiled.{Judged, Compiled, WithAnswer};
 ghost use Rattle.compiler.specs.inner.Measured.{Measured, Written};
@@ -66,7 +67,7 @@ fn measured(text: &[u8], names: &mut [usize; NAMES]) -> Answer
 
 // A text's answer, whatever table there is, over a lent list.
 fn judged(text: &[u8], names: &mut [usize; NAMES]) -> Answer
-    ensures { WithAnswer (Judged (record { text = Limits.TEXT; sizes = record { word = Limits.WORD; string = Limits.STRING; literal = Limits.LITERAL }; nesting = Limits.NESTING; declarations = Limits.DECLARATIONS; instructions = Limits.INSTRUCTIONS }) text.entry.now) (λ a. result ≡ answered a) }
+    ensures { WithAnswer (Judged the_limits text.entry.now) (λ a. result ≡ answered a) }
 {
     if scan::too_long(text) {
         return Answer::Refused(Refusal::TooLong, 0);
@@ -80,7 +81,7 @@ fn judged(text: &[u8], names: &mut [usize; NAMES]) -> Answer
 
 // That, with a list of its own.
 pub fn judge(text: &[u8]) -> Answer
-    ensures { WithAnswer (Judged (record { text = Limits.TEXT; sizes = record { word = Limits.WORD; string = Limits.STRING; literal = Limits.LITERAL }; nesting = Limits.NESTING; declarations = Limits.DECLARATIONS; instructions = Limits.INSTRUCTIONS }) text.entry.now) (λ a. result ≡ answered a) }
+    ensures { WithAnswer (Judged the_limits text.entry.now) (λ a. result ≡ answered a) }
 {
     let mut names = [0usize; NAMES];
     judged(text, &mut names)
@@ -102,7 +103,7 @@ fn write(text: &[u8], names: &mut [usize; NAMES], table: &mut [i32], cells: usiz
 
 // Judged; then the table's room; then written. One list serves both passes: a second would be 8 KB more of native stack.
 pub fn compile(text: &[u8], table: &mut [i32]) -> Answer
-    ensures { WithAnswer (Compiled (record { text = Limits.TEXT; sizes = record { word = Limits.WORD; string = Limits.STRING; literal = Limits.LITERAL }; nesting = Limits.NESTING; declarations = Limits.DECLARATIONS; instructions = Limits.INSTRUCTIONS }) text.entry.now (length table.old)) (Compiles (length table.old) result table.new) }
+    ensures { WithAnswer (Compiled the_limits text.entry.now (length table.old)) (Compiles (length table.old) result table.new) }
 {
     base::clear(table);
     let mut names = [0usize; NAMES];

@@ -2,17 +2,16 @@
 #![tactic(auto)]
 
 ghost use Rattle.std.specs.Prelude.{◌≡◌, length};
+ghost use Rattle.limits.specs.Limits.{the_limits};
 ghost use Rattle.rules.specs.Machine.{whole_run};
 ghost use Rattle.machine.specs.Promise.{lends};
 ghost use Rattle.compiler.specs.Compiled.{Compiled, WithAnswer};
 ghost use Rattle.export.specs.Reports.{RanInto, CompiledInto, RanTextInto, TidyInto};
 
-use limits::Limits;
-
 // A text compiled into the table; the report is its number, place, instructions, cells and stack need, where a refusal has only the first two.
 #[unsafe(no_mangle)]
 pub extern "C" fn o_compile(text: &[u8], table: &mut [i32], report: &mut [u64; 5])
-    ensures { WithAnswer (Compiled (record { text = Limits.TEXT; sizes = record { word = Limits.WORD; string = Limits.STRING; literal = Limits.LITERAL }; nesting = Limits.NESTING; declarations = Limits.DECLARATIONS; instructions = Limits.INSTRUCTIONS }) text.entry.now (length table.old)) (CompiledInto (length table.old) report.new table.new) }
+    ensures { WithAnswer (Compiled the_limits text.entry.now (length table.old)) (CompiledInto (length table.old) report.new table.new) }
 {
     *report = reports::of_answer(compiler::compile(text, table));
 }
@@ -45,7 +44,7 @@ pub extern "C" fn o_run_text(
     out: &mut [u8],
     report: &mut [u64; 7],
 )
-    ensures { WithAnswer (Compiled (record { text = Limits.TEXT; sizes = record { word = Limits.WORD; string = Limits.STRING; literal = Limits.LITERAL }; nesting = Limits.NESTING; declarations = Limits.DECLARATIONS; instructions = Limits.INSTRUCTIONS }) text.entry.now (length table.old)) (RanTextInto text.entry.now readings.now budget stack.old out.old (length table.old) report.new table.new stack.new out.new) }
+    ensures { WithAnswer (Compiled the_limits text.entry.now (length table.old)) (RanTextInto text.entry.now readings.now budget stack.old out.old (length table.old) report.new table.new stack.new out.new) }
 {
     let c = kit::run_text(text, readings, budget, table, stack, out);
     *report = reports::of_text(c, out);
@@ -54,7 +53,7 @@ pub extern "C" fn o_run_text(
 // A tidy copy of the text in the room, and zeros past it; the report is its number, place and length, where a refusal has no length.
 #[unsafe(no_mangle)]
 pub extern "C" fn o_tidy(text: &[u8], room: &mut [u8], report: &mut [u64; 3])
-    ensures { TidyInto (record { text = Limits.TEXT; sizes = record { word = Limits.WORD; string = Limits.STRING; literal = Limits.LITERAL }; nesting = Limits.NESTING; declarations = Limits.DECLARATIONS; instructions = Limits.INSTRUCTIONS }) text.entry.now (length room.old) report.new room.new }
+    ensures { TidyInto the_limits text.entry.now (length room.old) report.new room.new }
 {
     *report = tidy::numbers(tidy::tidy(text, room));
 }

@@ -2,10 +2,10 @@
 #![tactic(auto)]
 
 ghost use Rattle.std.specs.Prelude.{◌≡◌, length};
+ghost use Rattle.limits.specs.Limits.{the_limits};
 ghost use Rattle.compiler.specs.Compiled.{Compiled, WithAnswer};
 ghost use Rattle.kit.specs.Kit.{OutcomeOf};
 
-use limits::Limits;
 use reports::Came;
 use tables::Answer;
 
@@ -18,7 +18,7 @@ pub fn run_text(
     stack: &mut [i32],
     out: &mut [u8],
 ) -> Came
-    ensures { WithAnswer (Compiled (record { text = Limits.TEXT; sizes = record { word = Limits.WORD; string = Limits.STRING; literal = Limits.LITERAL }; nesting = Limits.NESTING; declarations = Limits.DECLARATIONS; instructions = Limits.INSTRUCTIONS }) text.entry.now (length table.old)) (OutcomeOf text.entry.now readings.now budget stack.old out.old (length table.old) result table.new stack.new out.new) }
+    ensures { WithAnswer (Compiled the_limits text.entry.now (length table.old)) (OutcomeOf text.entry.now readings.now budget stack.old out.old (length table.old) result table.new stack.new out.new) }
 {
     let a = compiler::compile(text, table);
     match a {

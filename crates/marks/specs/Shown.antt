@@ -3,6 +3,7 @@ use Rattle.std.specs.Prelude.{List, [], ◌++◌, map, Bool, true, false, cond, 
 use Prim.Native.Char.{code}
 use Rattle.base.specs.Bytes.{bytes, run}
 use Rattle.place.specs.Places.{goes_on, begins, count, within, before, from_place}
+use Rattle.marks.specs.declared.TheConstants.Window.{WHOLE, LAST, NEXT, REST}
 
 -- how much is shown: before the place `whole` bytes at most, and of more than those the last `last`; from the place on `next`, and `rest` more at most that go on a character
 pub record Widths : Type 0 where
@@ -10,6 +11,10 @@ pub record Widths : Type 0 where
   pub last : ℕ
   pub next : ℕ
   pub rest : ℕ
+
+-- those that the contracts hand in: their numbers stand in src/lib.rt
+abbrev pub the_widths : Widths
+the_widths = record { whole = WHOLE; last = LAST; next = NEXT; rest = REST }
 
 -- what is seen of a byte: a tab and a carriage return as a space, so that each character takes one cell, and any other control byte as a question mark
 unfoldable pub seen : ℕ → ℕ

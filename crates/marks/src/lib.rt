@@ -4,7 +4,7 @@
 ghost use Rattle.std.specs.Prelude.{◌≡◌, ◌++◌, map, replicate};
 ghost use Rattle.base.specs.Bytes.{bytes};
 ghost use Rattle.lines.specs.Added.{Added};
-ghost use Rattle.marks.specs.Shown.{seen, shown_from, shown_to, only, line, mark, marked, marked_line};
+ghost use Rattle.marks.specs.Shown.{seen, shown_from, shown_to, only, line, mark, marked, marked_line, the_widths};
 
 use base::{part, smaller};
 use lines::{put, put_byte};
@@ -121,7 +121,7 @@ fn put_mark(page: &mut [u8], at: usize, front: bool, before: &[u8]) -> usize
 
 // Both, by the line's bytes before the place and from it on.
 fn put_marked(page: &mut [u8], at: usize, before: &[u8], after: &[u8]) -> usize
-    ensures { Added (marked (record { whole = Window.WHOLE; last = Window.LAST; next = Window.NEXT; rest = Window.REST }) before.now after.now) page.old at page.new result }
+    ensures { Added (marked the_widths before.now after.now) page.old at page.new result }
 {
     let from = shown_from(before);
     let to = shown_to(after);
@@ -139,7 +139,7 @@ fn put_marked(page: &mut [u8], at: usize, before: &[u8], after: &[u8]) -> usize
 
 // Adds the line of a place to a page, and a mark under the place.
 pub fn put_marked_line(page: &mut [u8], at: usize, text: &[u8], place: usize) -> usize
-    ensures { Added (marked_line (record { whole = Window.WHOLE; last = Window.LAST; next = Window.NEXT; rest = Window.REST }) text.now place) page.old at page.new result }
+    ensures { Added (marked_line the_widths text.now place) page.old at page.new result }
 {
     let p = within(text, place);
     let spot = place::spot_of(text, place);

@@ -2,6 +2,7 @@
 #![tactic(auto)]
 
 ghost use Rattle.std.specs.Prelude.{[], length};
+ghost use Rattle.limits.specs.Limits.{the_limits};
 ghost use Rattle.compiler.specs.Compiled.{WithAnswer};
 ghost use Rattle.tells.specs.Tells.{said_of_run, sent};
 ghost use Rattle.tells.specs.Writes.{Writes};
@@ -19,7 +20,7 @@ pub const COPY: usize = Limits::TEXT + LINE;
 
 // The text, run on readings. A table and a stack for the most instructions are enough for every accepted text.
 pub fn lesson(text: &[u8], readings: &[i32], room: &mut [u8; Station::ROOM]) -> Came
-    ensures { WithAnswer (Tabled (record { text = Limits.TEXT; sizes = record { word = Limits.WORD; string = Limits.STRING; literal = Limits.LITERAL }; nesting = Limits.NESTING; declarations = Limits.DECLARATIONS; instructions = Limits.INSTRUCTIONS }) text.entry.now) (λ a. Comes room.old (came Station.BUDGET (length room.old) readings.now a) result room.new) }
+    ensures { WithAnswer (Tabled the_limits text.entry.now) (λ a. Comes room.old (came Station.BUDGET (length room.old) readings.now a) result room.new) }
 {
     let mut table = [0i32; Limits::INSTRUCTIONS * 2];
     let mut stack = [0i32; Limits::INSTRUCTIONS];
@@ -35,7 +36,7 @@ pub fn lesson(text: &[u8], readings: &[i32], room: &mut [u8; Station::ROOM]) -> 
 
 // The listing of a text, or the line of its refusal.
 pub fn listing(text: &[u8], page: &mut [u8; LISTING]) -> Said
-    ensures { WithAnswer (Tabled (record { text = Limits.TEXT; sizes = record { word = Limits.WORD; string = Limits.STRING; literal = Limits.LITERAL }; nesting = Limits.NESTING; declarations = Limits.DECLARATIONS; instructions = Limits.INSTRUCTIONS }) text.entry.now) (λ a. Writes (listed a) result page.old page.new [] []) }
+    ensures { WithAnswer (Tabled the_limits text.entry.now) (λ a. Writes (listed a) result page.old page.new [] []) }
 {
     let mut table = [0i32; Limits::INSTRUCTIONS * 2];
     let a = compiler::compile(text, &mut table);
@@ -70,7 +71,7 @@ fn tell_copy(t: Tidied, room: &[u8; Limits::TEXT], page: &mut [u8; COPY]) -> Sai
 
 // A tidy copy of a text, or the line of its refusal.
 pub fn copy(text: &[u8], page: &mut [u8; COPY]) -> Said
-    ensures { Copies (record { text = Limits.TEXT; sizes = record { word = Limits.WORD; string = Limits.STRING; literal = Limits.LITERAL }; nesting = Limits.NESTING; declarations = Limits.DECLARATIONS; instructions = Limits.INSTRUCTIONS }) text.entry.now result page.old page.new }
+    ensures { Copies the_limits text.entry.now result page.old page.new }
 {
     let mut room = [0u8; Limits::TEXT];
     let t = tidy::tidy(text, &mut room);
@@ -84,7 +85,7 @@ pub fn station(
     room: &mut [u8; Station::ROOM],
     page: &mut [u8; PAGE],
 ) -> Said
-    ensures { WithAnswer (Tabled (record { text = Limits.TEXT; sizes = record { word = Limits.WORD; string = Limits.STRING; literal = Limits.LITERAL }; nesting = Limits.NESTING; declarations = Limits.DECLARATIONS; instructions = Limits.INSTRUCTIONS }) text.entry.now) (λ a. Tells said_of_run (came Station.BUDGET (length room.old) readings.now a) room.old result room.new page.old page.new [] []) }
+    ensures { WithAnswer (Tabled the_limits text.entry.now) (λ a. Tells said_of_run (came Station.BUDGET (length room.old) readings.now a) room.old result room.new page.old page.new [] []) }
 {
     let c = lesson(text, readings, room);
     tells::tell(c, room, page)
@@ -98,7 +99,7 @@ pub fn feed(
     page: &mut [u8; PAGE],
     note: &mut [u8; LINE],
 ) -> Said
-    ensures { WithAnswer (Tabled (record { text = Limits.TEXT; sizes = record { word = Limits.WORD; string = Limits.STRING; literal = Limits.LITERAL }; nesting = Limits.NESTING; declarations = Limits.DECLARATIONS; instructions = Limits.INSTRUCTIONS }) text.entry.now) (λ a. Tells sent (came Station.BUDGET (length room.old) readings.now a) room.old result room.new page.old page.new note.old note.new) }
+    ensures { WithAnswer (Tabled the_limits text.entry.now) (λ a. Tells sent (came Station.BUDGET (length room.old) readings.now a) room.old result room.new page.old page.new note.old note.new) }
 {
     let c = lesson(text, readings, room);
     tells::send(c, room, page, note)

@@ -2,6 +2,7 @@
 #![tactic(auto)]
 
 ghost use Rattle.std.specs.Prelude.{◌≡◌, [], ◌+◌, ◌≤◌, length};
+ghost use Rattle.marks.specs.Shown.{the_widths};
 ghost use Rattle.lines.specs.Added.{Added};
 ghost use Rattle.tells.specs.Writes.{Writes, with_output};
 ghost use Rattle.pupil.specs.Shows.{has_place, at_place, shown_where, shown_refusal, shown_output, steps_taken, shown_run, shown};
@@ -9,7 +10,6 @@ ghost use Rattle.pupil.specs.Shows.{has_place, at_place, shown_where, shown_refu
 use base::Refusal;
 use limits::Station;
 use machine::Report;
-use marks::Window;
 use reports::Came;
 use tells::Said;
 use words::Numbers;
@@ -28,7 +28,7 @@ fn has_place(why: Refusal) -> bool
 
 // With line, column, and the line with a mark under the place.
 fn put_place(page: &mut [u8], text: &[u8], why: Refusal, place: usize) -> usize
-    ensures { Added (at_place (record { whole = Window.WHOLE; last = Window.LAST; next = Window.NEXT; rest = Window.REST }) text.now why place) page.old 0 page.new result }
+    ensures { Added (at_place the_widths text.now why place) page.old 0 page.new result }
 {
     let number = base::number(why);
     let spot = place::spot_of(text, place);
@@ -42,7 +42,7 @@ fn put_place(page: &mut [u8], text: &[u8], why: Refusal, place: usize) -> usize
 }
 
 fn put_where(page: &mut [u8], text: &[u8], why: Refusal, place: usize) -> usize
-    ensures { Added (shown_where (record { whole = Window.WHOLE; last = Window.LAST; next = Window.NEXT; rest = Window.REST }) text.now why place) page.old 0 page.new result }
+    ensures { Added (shown_where the_widths text.now why place) page.old 0 page.new result }
 {
     if has_place(why) {
         return put_place(page, text, why, place);
@@ -51,8 +51,8 @@ fn put_where(page: &mut [u8], text: &[u8], why: Refusal, place: usize) -> usize
 }
 
 fn put_refusal(page: &mut [u8], n: Numbers, text: &[u8], why: Refusal, place: usize) -> usize
-    ensures added { Added (shown_refusal (record { whole = Window.WHOLE; last = Window.LAST; next = Window.NEXT; rest = Window.REST }) n text.now why place) page.old 0 page.new result }
-    ensures short { length (shown_refusal (record { whole = Window.WHOLE; last = Window.LAST; next = Window.NEXT; rest = Window.REST }) n text.now why place) ≤ 512 }
+    ensures added { Added (shown_refusal the_widths n text.now why place) page.old 0 page.new result }
+    ensures short { length (shown_refusal the_widths n text.now why place) ≤ 512 }
 {
     let a = put_where(page, text, why, place);
     let b = words::put_why(page, a, n, text, why, place);
@@ -97,7 +97,7 @@ pub fn show(
     room: &[u8; Station::ROOM],
     page: &mut [u8; SHOWN],
 ) -> Said
-    ensures { Writes (shown (record { whole = Window.WHOLE; last = Window.LAST; next = Window.NEXT; rest = Window.REST }) n text.now (with_output c room.now)) result page.old page.new [] [] }
+    ensures { Writes (shown the_widths n text.now (with_output c room.now)) result page.old page.new [] [] }
 {
     match c {
         Came::Refused(why, place) => Said {

@@ -2,6 +2,7 @@
 #![tactic(auto)]
 
 ghost use Rattle.std.specs.Prelude.{◌≡◌, ◌++◌, length};
+ghost use Rattle.limits.specs.Limits.{the_limits};
 ghost use Rattle.tidy.specs.Tidy.{Tidy, tidy_numbers};
 ghost use Rattle.tidy.specs.inner.Copies.{without_zeros, copied, gap, Puts, Writes, CopiedSo, copied_length};
 
@@ -112,7 +113,7 @@ fn write(text: &[u8], room: &mut [u8]) -> Printed
 
 // The copy of a text: what stands past it in the room is not said.
 fn copy(text: &[u8], room: &mut [u8]) -> Tidied
-    ensures { CopiedSo (record { text = Limits.TEXT; sizes = record { word = Limits.WORD; string = Limits.STRING; literal = Limits.LITERAL }; nesting = Limits.NESTING; declarations = Limits.DECLARATIONS; instructions = Limits.INSTRUCTIONS }) text.entry.now room.old result room.new }
+    ensures { CopiedSo the_limits text.entry.now room.old result room.new }
 {
     let a = compiler::judge(text);
     match a {
@@ -140,7 +141,7 @@ fn copied_length(t: Tidied) -> usize
 
 // The text's lexemes with one space between, and zeros in the rest of the room.
 pub fn tidy(text: &[u8], room: &mut [u8]) -> Tidied
-    ensures { Tidy (record { text = Limits.TEXT; sizes = record { word = Limits.WORD; string = Limits.STRING; literal = Limits.LITERAL }; nesting = Limits.NESTING; declarations = Limits.DECLARATIONS; instructions = Limits.INSTRUCTIONS }) text.entry.now (length room.old) result room.new }
+    ensures { Tidy the_limits text.entry.now (length room.old) result room.new }
 {
     let t = copy(text, room);
     rooms::clear_from(room, copied_length(t));
