@@ -2,8 +2,9 @@
 // lexeme, what is none, and the edges. A case is a label, a bar and a text, or a text that is its own label.
 #![tactic(auto)]
 
+use base::Refused;
 use input::Loaded;
-use lexeme::{Found, Kind, Lexeme, fixed};
+use lexeme::{Kind, Lexeme, fixed};
 use limits::Limits;
 use std::io;
 use std::io::Write;
@@ -12,49 +13,37 @@ fn say(rt: &HostRuntime, text: &[u8]) -> io::Result<()> {
     rt.stdout().write_all(text)
 }
 
-fn say_number(rt: &HostRuntime, text: &[u8], n: u64) -> io::Result<()> {
-    say(rt, text)?;
-    print!(rt; "{n}")
-}
-
 fn say_kind(rt: &HostRuntime, kind: Kind) -> io::Result<()> {
     match kind {
-        Kind::Literal(n) => say_number(rt, b" literal ", n as u64),
-        Kind::Name => say(rt, b" name"),
-        Kind::Class => say(rt, b" class"),
-        Kind::Str => say(rt, b" string"),
-        Kind::Fixed(n) => say_number(rt, b" fixed ", n as u64),
+        Kind::Literal(n) => print!(rt; " literal {n}"),
+        Kind::Name => print!(rt; " name"),
+        Kind::Class => print!(rt; " class"),
+        Kind::Str => print!(rt; " string"),
+        Kind::Fixed(n) => print!(rt; " fixed {n}"),
     }
 }
 
 fn say_lexeme(rt: &HostRuntime, l: Lexeme) -> io::Result<()> {
-    let kind = l.kind;
-    say_kind(rt, kind)?;
-    say_number(rt, b" ", l.place as u64)?;
-    say_number(rt, b"-", l.end as u64)?;
-    say(rt, b",")
+    say_kind(rt, l.kind)?;
+    print!(rt; " {}-{},", l.place, l.end)
 }
 
-fn say_last(rt: &HostRuntime, found: Found) -> io::Result<()> {
-    match found {
-        Found::Refused(why, p) => {
-            say_number(rt, b" refused ", base::number(why) as u64)?;
-            say_number(rt, b" ", p as u64)
-        }
-        Found::Is(_) => say(rt, b" end"),
+fn say_last(rt: &HostRuntime, last: Result<Lexeme, Refused>) -> io::Result<()> {
+    match last {
+        Ok(_) => print!(rt; " end"),
+        Err(refused) => print!(rt; " refused {} {}", base::number(refused.why), refused.place),
     }
 }
 
 fn say_lexemes(rt: &HostRuntime, text: &[u8]) -> io::Result<()> {
     let mut at = 0;
     loop {
-        let found = lexer::next(text, at);
-        let Found::Is(l) = found else {
-            return say_last(rt, found);
+        let next = lexer::next(text, at);
+        let Ok(l) = next else {
+            return say_last(rt, next);
         };
-        let kind = l.kind;
-        if lexeme::fixed_of(kind) == fixed::END {
-            return say_last(rt, found);
+        if l.kind == Kind::Fixed(fixed::END) {
+            return say_last(rt, next);
         }
         say_lexeme(rt, l)?;
         at = l.end;
@@ -64,11 +53,11 @@ fn say_lexemes(rt: &HostRuntime, text: &[u8]) -> io::Result<()> {
 // A text's label, lexemes and scan.
 fn show(rt: &HostRuntime, label: &[u8], text: &[u8]) -> io::Result<()> {
     say(rt, label)?;
-    say(rt, b":")?;
+    print!(rt; ":")?;
     say_lexemes(rt, text)?;
-    say(rt, b"; scan")?;
+    print!(rt; "; scan")?;
     say_last(rt, scan::scan(text))?;
-    say(rt, b"\n")
+    println!(rt; "")
 }
 
 // A text as its own label.
@@ -86,10 +75,8 @@ fn case(rt: &HostRuntime, c: &[u8]) -> io::Result<()> {
 
 fn each(rt: &HostRuntime, all: &[u8]) -> io::Result<()> {
     let n = cases::count(all, cases::END);
-    let mut i = 0;
-    while i < n {
+    for i in 0..n {
         case(rt, rows::nth(all, cases::END, i))?;
-        i += 1;
     }
     Ok(())
 }
@@ -97,9 +84,9 @@ fn each(rt: &HostRuntime, all: &[u8]) -> io::Result<()> {
 fn say_long(rt: &HostRuntime, label: &[u8], text: &[u8]) -> io::Result<()> {
     say(rt, label)?;
     if scan::too_long(text) {
-        say(rt, b": too long\n")
+        println!(rt; ": too long")
     } else {
-        say(rt, b": not too long\n")
+        println!(rt; ": not too long")
     }
 }
 
