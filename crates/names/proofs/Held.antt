@@ -22,6 +22,10 @@ use Rattle.names.specs.declared.Scope.{Scope}
 use Rattle.std.specs.Prelude.{Option, Some, None}
 use Rattle.names.proofs.Found.{visible_suc}
 
+-- the scope that a list holds, whose counts are c
+abbrev shown : List ℕ → List ℕ → Scope → N.Scope
+shown text names c = record { visible = visible_in text names c.visible; declared = c.declared; next_cell = c.next_cell; cells = c.cells; blocks = c.blocks }
+
 -- ---- the beginning of a text
 
 module _ (names : List ℕ) (none : counts names ≡ no_counts) where
@@ -145,12 +149,9 @@ module _ (names : List ℕ) (s : Scope) where
       at : (j : ℕ) → j < 5 → get_or (sets names 0 numbers) (0 + j) 0 ≡ get_or numbers j 0
       at j q = in_sets numbers names 0 j h q
 
-  with_scope : 5 ≤ length names → (text : List ℕ) → scope_in text (with_counts names s) ≡ record { visible = visible_in text names s.visible; declared = s.declared; next_cell = s.next_cell; cells = s.cells; blocks = s.blocks }
+  with_scope : 5 ≤ length names → (text : List ℕ) → scope_in text (with_counts names s) ≡ shown text names s
   unfolding scope_in
-  with_scope h text = ap shown (with_is h) ∙ rw (same_visible text names (with_counts names s) with_long s.visible (λ i f q. with_entries i f)) refl
-    where
-      shown : Scope → N.Scope
-      shown c = record { visible = visible_in text (with_counts names s) c.visible; declared = c.declared; next_cell = c.next_cell; cells = c.cells; blocks = c.blocks }
+  with_scope h text = ap (shown text (with_counts names s)) (with_is h) ∙ rw (same_visible text names (with_counts names s) with_long s.visible (λ i f q. with_entries i f)) refl
 
 -- ---- a declaration
 
@@ -231,10 +232,7 @@ module _ (names : List ℕ) (p e : ℕ) (sound : Sound names) where
 
       after_scope : (x : Name) → x.spelled ≡ part text p e → scope_in text after ≡ one_more x (scope_in text names)
       unfolding scope_in one_more
-      after_scope x h = ap shown after_counts ∙ rw (after_visible, h) refl
-        where
-          shown : Scope → N.Scope
-          shown c = record { visible = visible_in text after c.visible; declared = c.declared; next_cell = c.next_cell; cells = c.cells; blocks = c.blocks }
+      after_scope x h = ap (shown text after) after_counts ∙ rw (after_visible, h) refl
 
       pub declared_given : (x : Name) → x.spelled ≡ part text p e → declared_here (room names) x (scope_in text names) ≡ given (record { what = s.next_cell; scope = scope_in text (declared_in names p e) })
       unfolding declared_here scope_in
@@ -344,7 +342,4 @@ module _ (names : List ℕ) (sound : Sound names) (few : (counts names).blocks <
 
     pub closed_scope_in : (text : List ℕ) → scope_in text after_block ≡ closed (scope_in text names) (scope_in text names')
     unfolding scope_in closed
-    closed_scope_in text = ap shown block_counts ∙ unfold closed_scope in rw (same_visible text names after_block block_long (counts names).visible block_entries) refl
-      where
-        shown : Scope → N.Scope
-        shown c = record { visible = visible_in text after_block c.visible; declared = c.declared; next_cell = c.next_cell; cells = c.cells; blocks = c.blocks }
+    closed_scope_in text = ap (shown text after_block) block_counts ∙ unfold closed_scope in rw (same_visible text names after_block block_long (counts names).visible block_entries) refl
