@@ -12,56 +12,22 @@ use lib.Dec.{eqb}
 use borrow.Author.Tests.{eqb-true, eqb-false}
 use Rattle.base.specs.declared.Refusal.{Refusal}
 use Rattle.base.specs.declared.Refusal.TheVariants.{NoProgram, TooDeep}
+use Rattle.base.specs.declared.Refused.{Refused}
+use Rattle.std.specs.Prelude.{Err}
 use Rattle.base.specs.Answers.{given, refused}
-use Rattle.lexeme.specs.Lexemes.{Name, Lexeme, Fixed, Placed, next, fixed, end, open_brace, close_brace, becomes, DO, ERROR, IF, INT, PRINTI, PRINTLNS, PRINTS, READ, THEN, WHILE}
-use Rattle.lexeme.specs.inner.Coded.{code_of, coded, fixed_number, told, Ends, Stands, Ahead}
+use Rattle.lexeme.specs.Lexemes.{Name, Lexeme, Fixed, Placed, fixed, end, open_brace, close_brace, becomes, DO, ERROR, IF, INT, PRINTI, PRINTLNS, PRINTS, READ, THEN, WHILE}
+use Rattle.lexeme.specs.inner.Coded.{code_of, fixed_number, told, Ends, Stands, Ahead}
 use Rattle.lexeme.specs.declared.Kind.TheVariants as kind
-use Rattle.lexeme.specs.declared.Found.TheVariants as reply
 use Rattle.lexeme.specs.declared.Lexeme as code
 use Rattle.sentence.specs.Sentences.{Sen, condition, command, commands, print, print_line, print_string, declare, input, assign, error, while, when, block, single, then}
 use Rattle.sentence.proofs.Reader.{Around, depth, in_print, in_assign, in_while, in_when, in_while_body, in_when_body, in_block, in_block_after, in_program, State, want_DO, want_expression, want_condition, want_command, want_declared, want_read, want_becomes, got_command, nowhere, is, on, on_name, on_string, at_command, at_command_or_brace, after_command, after_condition, whole_expression, step, verdict, goes_on, read}
 use Rattle.sentence.proofs.Operators.{either}
 use Rattle.compiler.specs.declared.walk.Walk.{Walk}
-use Rattle.compiler.specs.declared.walk.Read.TheVariants.{Refused}
-use Rattle.compiler.specs.inner.Steps.{Follows, Expects, has_body, before_body}
-use Rattle.compiler.specs.inner.Walks.{name_of, want_quoted, want_guarded, want_nested}
+use Rattle.compiler.specs.inner.Steps.{Lost, Follows, Expects, has_body, before_body}
+use Rattle.compiler.specs.inner.Walks.{Passes, Refuses, expression_way, condition_way, command_from, command_way, print_way, string_way, declare_way, read_way, assign_way, guarded_way, block_way, block_so_far, name_of, want_quoted, want_guarded, want_nested}
 use Rattle.compiler.proofs.Lays.{quoted, guarded}
 use Rattle.compiler.proofs.Looked.{quoted_of, going, name_goes, string_goes, told_name, told_string, told_fixed, no_fixed, no_name, no_string}
-use Rattle.compiler.proofs.Reading.{from_via, ended, Comes, Stuck, comes_on, comes_stuck, comes_within, stuck_within, alike, onward, none, too_deep, lost, Way, Passed, Barred, comes, passes, stuck, refuses, Leads, leads, begins_with, refuses_within, Met, unmet, stays, crosses}
-use Rattle.compiler.proofs.Passes.{expression_way, condition_way}
-
--- ---- the ways of the readers
-
--- a command, from a state on
-abbrev pub command_from : (Around command → State) → Way command (Sen Name command)
-command_from start = record { start = start; stop = after_command }
-
-abbrev pub command_way : Way command (Sen Name command)
-command_way = command_from want_command
-
-abbrev pub print_way : Way command (Sen Name command)
-print_way = command_from (λ a. want_expression (in_print a))
-
-abbrev pub string_way : Bool → Way command (Sen Name command)
-string_way line = command_from (want_quoted line)
-
-abbrev pub declare_way : Way command (Sen Name command)
-declare_way = command_from want_declared
-
-abbrev pub read_way : Way command (Sen Name command)
-read_way = command_from want_read
-
-abbrev pub assign_way : Name → Way command (Sen Name command)
-assign_way x = command_from (want_becomes x)
-
-abbrev pub guarded_way : Bool → Way command (Sen Name command)
-guarded_way again = command_from (want_guarded again)
-
-abbrev pub block_way : Way command (Sen Name command)
-block_way = command_from (λ a. want_command (in_block a))
-
-abbrev pub block_so_far : Way command (Sen Name commands)
-block_so_far = record { start = λ a. want_command (in_block a); stop = at_command_or_brace }
+use Rattle.compiler.proofs.Reading.{from_via, ended, Comes, Stuck, comes_on, comes_stuck, comes_within, stuck_within, alike, onward, none, too_deep, lost, comes, passes, stuck, refuses, Leads, leads, begins_with, refuses_within, Met, unmet, stays, crosses}
 
 -- ---- after the first lexeme of a command without a body
 
@@ -71,37 +37,37 @@ print_leads text l allow = begins_with text l allow print_way allow expression_w
 
 module _ {text : List ℕ} {l : code.Lexeme} (s : Stands text l) (allow : ℕ) where
   -- a lexeme that ends the command
-  ends_command : {m : code.Lexeme} (start : Around command → State) (c : Sen Name command) → (Ends l → ⊥) → Follows text l m → ((a : Around command) → step (start a) (told text l) ≡ got_command c a) → Passed (command_from start) text l m allow c
+  ends_command : {m : code.Lexeme} (start : Around command → State) (c : Sen Name command) → (Ends l → ⊥) → Follows text l m → ((a : Around command) → step (start a) (told text l) ≡ got_command c a) → Passes (command_from start) text l m allow c
   unfolding step verdict
   ends_command start c g next e = passes (omega (arith, s.some g, next.later)) next.stands (onward text l (λ a. step (start a)) g next (got_command c) e (λ a. omega arith))
 
   -- a lexeme with which no command goes on
-  no_command_from : (start : Around command → State) → ((a : Around command) → step (start a) (told text l) ≡ nowhere) → Barred (command_from start) text l allow NoProgram l.place
-  no_command_from start e = refuses text l allow start NoProgram l.place (none text l (λ a. step (start a)) e)
+  no_command_from : (start : Around command → State) → ((a : Around command) → step (start a) (told text l) ≡ nowhere) → Refuses start text l allow NoProgram l.place
+  no_command_from start e = refuses (none text l (λ a. step (start a)) e)
 
-  pub quoted_printed : {m : code.Lexeme} (line : Bool) → l.kind ≡ kind.Str → Follows text l m → Passed (string_way line) text l m allow (quoted line (quoted_of text l))
+  pub quoted_printed : {m : code.Lexeme} (line : Bool) → l.kind ≡ kind.Str → Follows text l m → Passes (string_way line) text l m allow (quoted line (quoted_of text l))
   unfolding step want_quoted on_string quoted
   quoted_printed true h next = ends_command (want_quoted true) (print_line (quoted_of text l)) (string_goes l h) next (λ a. rw (told_string text l h))
   quoted_printed false h next = ends_command (want_quoted false) (print_string (quoted_of text l)) (string_goes l h) next (λ a. rw (told_string text l h))
 
-  pub no_quoted : (line : Bool) → (l.kind ≡ kind.Str → ⊥) → Barred (string_way line) text l allow NoProgram l.place
+  pub no_quoted : (line : Bool) → (l.kind ≡ kind.Str → ⊥) → Refuses (want_quoted line) text l allow NoProgram l.place
   unfolding step want_quoted
   no_quoted true h = no_command_from (want_quoted true) (λ a. no_string text l h _ _)
   no_quoted false h = no_command_from (want_quoted false) (λ a. no_string text l h _ _)
 
-  pub name_declared : {m : code.Lexeme} → l.kind ≡ kind.Name → Follows text l m → Passed declare_way text l m allow (declare (name_of text l))
+  pub name_declared : {m : code.Lexeme} → l.kind ≡ kind.Name → Follows text l m → Passes declare_way text l m allow (declare (name_of text l))
   unfolding step on_name
   name_declared h next = ends_command want_declared (declare (name_of text l)) (name_goes l h) next (λ a. rw (told_name text l h))
 
-  pub none_declared : (l.kind ≡ kind.Name → ⊥) → Barred declare_way text l allow NoProgram l.place
+  pub none_declared : (l.kind ≡ kind.Name → ⊥) → Refuses declare_way.start text l allow NoProgram l.place
   unfolding step
   none_declared h = no_command_from want_declared (λ a. no_name text l h _ _)
 
-  pub name_read : {m : code.Lexeme} → l.kind ≡ kind.Name → Follows text l m → Passed read_way text l m allow (input (name_of text l))
+  pub name_read : {m : code.Lexeme} → l.kind ≡ kind.Name → Follows text l m → Passes read_way text l m allow (input (name_of text l))
   unfolding step on_name
   name_read h next = ends_command want_read (input (name_of text l)) (name_goes l h) next (λ a. rw (told_name text l h))
 
-  pub none_read : (l.kind ≡ kind.Name → ⊥) → Barred read_way text l allow NoProgram l.place
+  pub none_read : (l.kind ≡ kind.Name → ⊥) → Refuses read_way.start text l allow NoProgram l.place
   unfolding step
   none_read h = no_command_from want_read (λ a. no_name text l h _ _)
 
@@ -110,13 +76,13 @@ module _ {text : List ℕ} (allow : ℕ) (x : Name) where
   unfolding depth step on is code_of verdict whole_expression
   assign_leads {l} s met = crosses s (in_assign x) (le_refl l.place) stays (told_fixed s becomes met.number) (going l met.number (λ z. omega arith)) met.follows (λ a. refl) (λ a. refl) (λ a. omega arith) (λ d. refl)
 
-  pub no_becomes : (w : Walk) (need : ℕ) (why : Refusal) (p : ℕ) → Stands text w.next → Expects text w (code_of becomes) need (Refused why p) → Barred (assign_way x) text w.next allow why p
+  pub no_becomes : (w : Walk) {e : Refused} → Stands text w.next → Expects text w (code_of becomes) (Err e) → Refuses (want_becomes x) text w.next allow e.why e.place
   unfolding step on code_of
-  no_becomes w need why p s e = refuses text w.next allow (want_becomes x) why p (unmet text w need why p becomes (λ z. omega arith) s (λ a. step (want_becomes x a)) (λ a y h. rw h) e)
+  no_becomes w s e = refuses (unmet w becomes (λ z. omega arith) s (λ a. step (want_becomes x a)) (λ a y h. rw h) e)
 
 -- ---- bodies and blocks
 
-module _ {text : List ℕ} {l m : code.Lexeme} (allow : ℕ) (c : Sen Name condition) (p : Passed condition_way text l m allow c) where
+module _ {text : List ℕ} {l m : code.Lexeme} (allow : ℕ) (c : Sen Name condition) (p : Passes condition_way text l m allow c) where
   -- the condition of a command that opens one nesting, and the lexeme before the body
   body_leads : (inner : Around command → Around condition) (body : Around command → Around command) (makes : Sen Name command → Sen Name command) (w : Fixed)
       → ((a : Around command) → depth (inner a) ≡ suc (depth a))
@@ -135,33 +101,31 @@ module _ {text : List ℕ} {l m : code.Lexeme} (allow : ℕ) (c : Sen Name condi
   guarded_leads true = body_leads in_while (in_while_body c) (while c) DO (λ a. refl) (λ a. refl) (λ a. refl) (λ b. refl) (λ z. omega arith)
   guarded_leads false = body_leads in_when (in_when_body c) (when c) THEN (λ a. refl) (λ a. refl) (λ a. refl) (λ b. refl) (λ z. omega arith)
 
-module _ {text : List ℕ} {l : code.Lexeme} (allow : ℕ) (c : Sen Name condition) (w : Walk) (need : ℕ) (why : Refusal) (q : ℕ) (p : Passed condition_way text l w.next allow c) where
+module _ {text : List ℕ} {l : code.Lexeme} (allow : ℕ) (c : Sen Name condition) (w : Walk) {e : Refused} (p : Passes condition_way text l w.next allow c) where
   unled : (inner : Around command → Around condition) (f : Fixed)
       → ((a : Around command) → depth (inner a) ≡ suc (depth a))
       → ((a : Around command) (x : Lexeme) → is f x ≡ false → after_condition c (inner a) x ≡ nowhere)
       → (code_of f ≡ 0 → ⊥)
-      → Expects text w (code_of f) need (Refused why q)
-      → Barred (command_from (λ a. want_condition (inner a))) text l (suc allow) why q
-  unled inner f d to n e =
-      refuses text l (suc allow) (λ a. want_condition (inner a)) why q
-      (comes_stuck (comes_within inner (λ a. rw (d a) (omega arith)) (comes p)) (unmet text w need why q f n p.stands (λ a. after_condition c (inner a)) to e))
+      → Expects text w (code_of f) (Err e)
+      → Refuses (λ a. want_condition (inner a)) text l (suc allow) e.why e.place
+  unled inner f d to n x = refuses (comes_stuck (comes_within inner (λ a. rw (d a) (omega arith)) (comes p)) (unmet w f n p.stands (λ a. after_condition c (inner a)) to x))
 
-  pub no_body : (again : Bool) → Expects text w (code_of (before_body again)) need (Refused why q) → Barred (guarded_way again) text l (suc allow) why q
+  pub no_body : (again : Bool) → Expects text w (code_of (before_body again)) (Err e) → Refuses (want_guarded again) text l (suc allow) e.why e.place
   unfolding depth after_condition on want_guarded before_body code_of
   no_body true = unled in_while DO (λ a. refl) (λ a x h. rw h) (λ z. omega arith)
   no_body false = unled in_when THEN (λ a. refl) (λ a x h. rw h) (λ z. omega arith)
 
-module _ (text : List ℕ) (l : code.Lexeme) (allow : ℕ) where
-  pub guarded_refused : (again : Bool) (why : Refusal) (p : ℕ) → Barred condition_way text l allow why p → Barred (guarded_way again) text l (suc allow) why p
+module _ {text : List ℕ} {l : code.Lexeme} {allow : ℕ} where
+  pub guarded_refused : (again : Bool) {why : Refusal} {p : ℕ} → Refuses condition_way.start text l allow why p → Refuses (want_guarded again) text l (suc allow) why p
   unfolding depth want_guarded
-  guarded_refused true why p q = refuses_within text l (suc allow) allow want_condition why p in_while (λ a. omega arith) q
-  guarded_refused false why p q = refuses_within text l (suc allow) allow want_condition why p in_when (λ a. omega arith) q
+  guarded_refused true = refuses_within in_while (λ a. omega arith)
+  guarded_refused false = refuses_within in_when (λ a. omega arith)
 
   pub block_first : Leads text l l (suc allow) block_so_far allow command_way single
   unfolding depth after_command
   block_first = begins_with text l (suc allow) block_so_far allow command_way single in_block (λ a. omega arith) refl (λ m. refl)
 
-module _ {text : List ℕ} {l m : code.Lexeme} (allow : ℕ) (ms : Sen Name commands) (p : Passed block_so_far text l m (suc allow) ms) where
+module _ {text : List ℕ} {l m : code.Lexeme} (allow : ℕ) (ms : Sen Name commands) (p : Passes block_so_far text l m (suc allow) ms) where
   pub block_more : (fixed_number m.kind ≡ code_of close_brace → ⊥) → Leads text l m (suc allow) block_so_far allow command_way (then ms)
   unfolding depth step at_command_or_brace after_command on
   block_more h =
@@ -170,20 +134,20 @@ module _ {text : List ℕ} {l m : code.Lexeme} (allow : ℕ) (ms : Sen Name comm
       (λ b. refl)
 
   module _ (h : fixed_number m.kind ≡ code_of close_brace) where
-    pub block_closed : {n : code.Lexeme} → Follows text m n → Passed block_way text l n (suc allow) (block ms)
+    pub block_closed : {n : code.Lexeme} → Follows text m n → Passes block_way text l n (suc allow) (block ms)
     unfolding step at_command_or_brace on is code_of verdict
     block_closed next =
         passes (omega (arith, p.later, p.stands.order, next.later)) next.stands
         (comes_on (comes p) (onward text m (at_command_or_brace ms) (going m h (λ z. omega arith)) next (got_command (block ms)) (λ a. rw (told_fixed p.stands close_brace h)) (λ a. omega arith)))
 
-    pub block_lost : {why : Refusal} {q : ℕ} → reply.Refused why q ≡ coded (next text m.end) → Barred block_way text l (suc allow) why q
+    pub block_lost : {e : Refused} → Lost text m e → Refuses block_way.start text l (suc allow) e.why e.place
     unfolding code_of
-    block_lost e = refuses text l (suc allow) (λ a. want_command (in_block a)) _ _ (comes_stuck (comes p) (lost text m (at_command_or_brace ms) (going m h (λ z. omega arith)) e))
+    block_lost e = refuses (comes_stuck (comes p) (lost text m (at_command_or_brace ms) (going m h (λ z. omega arith)) e))
 
 -- ---- a command by its first lexeme
 
 module _ {text : List ℕ} {l : code.Lexeme} (s : Stands text l) where
-  pub error_read : {m : code.Lexeme} (allow : ℕ) → fixed_number l.kind ≡ code_of ERROR → Follows text l m → Passed command_way text l m allow error
+  pub error_read : {m : code.Lexeme} (allow : ℕ) → fixed_number l.kind ≡ code_of ERROR → Follows text l m → Passes command_way text l m allow error
   unfolding step at_command on is on_name code_of
   error_read allow h next = ends_command s allow want_command error (going l h (λ z. omega arith)) next (λ a. rw (told_fixed s ERROR h))
 
@@ -235,14 +199,14 @@ module _ {text : List ℕ} {l : code.Lexeme} (s : Stands text l) where
     unfolding step
     begun_leads d e next = crosses s (λ a. a) (le_refl l.place) stays refl b.goes next (λ a. omega arith) b.to (λ a. rw (b.deep a) (omega arith)) (λ m. refl)
 
-    pub too_deep_begun : {allow : ℕ} → allow < deeper → Barred command_way text l allow TooDeep l.place
+    pub too_deep_begun : {allow : ℕ} → allow < deeper → Refuses command_way.start text l allow TooDeep l.place
     unfolding step
-    too_deep_begun {allow} d = refuses text l allow want_command TooDeep l.place (too_deep text l (λ a. step (want_command a)) start b.to (λ a. rw (b.deep a) (omega arith)))
+    too_deep_begun {allow} d = refuses (too_deep text l (λ a. step (want_command a)) start b.to (λ a. rw (b.deep a) (omega arith)))
 
   pub no_command : (allow : ℕ) → (l.kind ≡ kind.Name → ⊥)
       → (fixed_number l.kind ≡ code_of ERROR → ⊥) → (fixed_number l.kind ≡ code_of INT → ⊥) → (fixed_number l.kind ≡ code_of PRINTI → ⊥) → (fixed_number l.kind ≡ code_of PRINTLNS → ⊥) → (fixed_number l.kind ≡ code_of PRINTS → ⊥) → (fixed_number l.kind ≡ code_of READ → ⊥)
       → has_body (fixed_number l.kind) ≡ false
-      → Barred command_way text l allow NoProgram l.place
+      → Refuses command_way.start text l allow NoProgram l.place
   unfolding step at_command on code_of has_body
   no_command allow n e i p q t g o =
       let n₁ = (or-eq-false-eq-eq-false-and-eq-false (eqb (fixed_number l.kind) (code_of IF)) _).0 o in
@@ -257,13 +221,13 @@ module _ {text : List ℕ} {l m : code.Lexeme} (limit : ℕ) (s : Stands text l)
   unfolding step on is code_of verdict depth
   begun = onward text l (λ i. step want_DO) (going l met.number (λ z. omega arith)) met.follows (λ i. want_command in_program) (λ i. rw (told_fixed s DO met.number)) (λ i. omega arith)
 
-  pub program_refused : (why : Refusal) (p : ℕ) → Barred command_way text m limit why p → (ls : List Placed) → Ahead text l ls → read limit ls ≡ refused why p
+  pub program_refused : {why : Refusal} {p : ℕ} → Refuses command_way.start text m limit why p → (ls : List Placed) → Ahead text l ls → read limit ls ≡ refused why p
   unfolding read depth
-  program_refused why p q ls h =
+  program_refused q ls h =
       from_via limit want_DO h
-      ∙ (comes_stuck begun (stuck_within (λ i. in_program) (λ i. omega arith) (stuck text m limit want_command why p q))).same ls h tt
+      ∙ (comes_stuck begun (stuck_within (λ i. in_program) (λ i. omega arith) (stuck q))).same ls h tt
 
-  module _ (c : Sen Name command) {n : code.Lexeme} (p : Passed command_way text m n limit c) where
+  module _ (c : Sen Name command) {n : code.Lexeme} (p : Passes command_way text m n limit c) where
     read_to : Comes text l n (λ (i : Unit {0}). limit) (λ i. step want_DO) (λ i. after_command c in_program)
     unfolding depth
     read_to = comes_on begun (comes_within (λ i. in_program) (λ i. omega arith) (comes p))
@@ -280,8 +244,8 @@ module _ {text : List ℕ} {l m : code.Lexeme} (limit : ℕ) (s : Stands text l)
         from_via limit want_DO h
         ∙ (comes_stuck read_to (none text n (λ i. after_command c in_program) (λ i. rw (no_fixed p.stands end z)))).same ls h tt
 
-pub no_program : {text : List ℕ} (limit : ℕ) (w : Walk) (need : ℕ) (why : Refusal) (p : ℕ) → Stands text w.next → Expects text w (code_of DO) need (Refused why p) → (ls : List Placed) → Ahead text w.next ls → read limit ls ≡ refused why p
+pub no_program : {text : List ℕ} (limit : ℕ) (w : Walk) {e : Refused} → Stands text w.next → Expects text w (code_of DO) (Err e) → (ls : List Placed) → Ahead text w.next ls → read limit ls ≡ refused e.why e.place
 unfolding read step on code_of
-no_program {text} limit w need why p s e ls h =
-    let st : Stuck text w.next (λ (i : Unit {0}). limit) (λ i. step want_DO) why p = unmet text w need why p DO (λ z. omega arith) s (λ i. step want_DO) (λ i x g. rw g) e in
+no_program {text} limit w {e} s x ls h =
+    let st : Stuck text w.next (λ (i : Unit {0}). limit) (λ i. step want_DO) e.why e.place = unmet w DO (λ z. omega arith) s (λ i. step want_DO) (λ i x g. rw g) x in
     from_via limit want_DO h ∙ st.same ls h tt

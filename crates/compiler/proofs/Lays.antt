@@ -22,7 +22,6 @@ use Rattle.meaning.specs.Layout.{of_mul, of_sign, of_rel, code, need}
 use Rattle.meaning.proofs.Sizes.{size}
 use Rattle.meaning.proofs.Laid.{code_multiply, code_add, code_compare, code_while, code_when, code_then}
 use Rattle.compiler.specs.declared.walk.Walk.{Walk}
-use Rattle.compiler.specs.declared.walk.Gives.{Gives}
 use Rattle.compiler.specs.inner.Steps.{moved_to, one_instruction, printing_number, ended_walk, ended_table, operation_number}
 use Rattle.tables.specs.inner.Tables.{put, emit}
 use Rattle.compiler.specs.inner.Walks.{stand, named, scope_of, Laid, spare, Small, Lays, Ready}
@@ -84,10 +83,10 @@ module _ {A B C : Type 0} {P : A → Type 0} {Q : B → Type 0} {R : C → Type 
 
 -- ---- what a walk promises, as such an answer
 
-abbrev pub Led : {k : Kind} → List ℕ → List ℕ → List ℤ → Walk → Sen Name k → List ℕ → List ℤ → Walk → Gives → Type 0
+abbrev pub Led : {k : Kind} → List ℕ → List ℕ → List ℤ → Walk → Sen Name k → List ℕ → List ℤ → Walk → ℕ → Type 0
 Led text names table w x names' table' v g = Agrees (Laid table table' w v g) (stand text names' v) (pass (stand text names w) (resolve (room names) x))
 
-module _ {k : Kind} {text names names' : List ℕ} {table table' : List ℤ} {w v : Walk} {g : Gives} {x : Sen Name k} where
+module _ {k : Kind} {text names names' : List ℕ} {table table' : List ℤ} {w v : Walk} {g : ℕ} {x : Sen Name k} where
   pub agrees : Lays text names table w x names' table' v g → Led text names table w x names' table' v g
   agrees p = by (pass (stand text names w) (resolve (room names) x)) refl
     where
@@ -105,7 +104,7 @@ module _ {k : Kind} {text names names' : List ℕ} {table table' : List ℤ} {w 
 
 -- ---- the lexemes around a construct
 
-module _ {k : Kind} {text names names' : List ℕ} {table table' : List ℤ} {w v : Walk} {g : Gives} {x : Sen Name k} (m : Lexeme) where
+module _ {k : Kind} {text names names' : List ℕ} {table table' : List ℤ} {w v : Walk} {g : ℕ} {x : Sen Name k} (m : Lexeme) where
   pub lead : w.next.place ≤ m.place → Lays text names table (moved_to w m) x names' table' v g → Lays text names table w x names' table' v g
   unfolding moved_to stand
   lead h p = record { naming = p.naming; laying = λ r e. let q = p.laying r e in record { code = q.code; need = q.need; numbers = q.numbers }; small = omega (arith, p.small); sound = p.sound; kept = p.kept }
@@ -133,23 +132,23 @@ quoted false q = print_string q
 
 module _ {text names : List ℕ} {table : List ℤ} {w : Walk} where
   lays_alone : {k : Kind} (x : Sen Name k) (z : Sen ℕ k) (i : Instruction) (n : ℕ) → resolve (room names) x ≡ give z → size z ≡ 1 → need z ≡ n → n ≤ 1 → code w.code z ≡ i ∷ [] →
-      (m : Lexeme) → w.next.place < m.place → Sound names → Lays text names table w x names (put table w.code (encode i [])) (moved_to (one_instruction w) m) (record { need = n })
+      (m : Lexeme) → w.next.place < m.place → Sound names → Lays text names table w x names (put table w.code (encode i [])) (moved_to (one_instruction w) m) n
   unfolding moved_to one_instruction stand
   lays_alone {k} x z i n e s d l c m h f = lays (rw e (agrees_give z (stand text names w) written)) (omega (arith, few k)) f (kept_all names)
     where
-      written : Laid table (put table w.code (encode i [])) w (moved_to (one_instruction w) m) (record { need = n }) z
+      written : Laid table (put table w.code (encode i [])) w (moved_to (one_instruction w) m) n z
       written = record { code = ap (λ j. w.code + j) (sym s); need = sym d; numbers = sym (ap (emit table w.code) c ∙ emit_one table w.code i) }
 
-  pub lays_literal : (n : ℕ) (m : Lexeme) → w.next.place < m.place → Sound names → Lays text names table w (literal n) names (put table w.code (pos 2 ∷ pos n ∷ [])) (moved_to (one_instruction w) m) (record { need = 1 })
+  pub lays_literal : (n : ℕ) (m : Lexeme) → w.next.place < m.place → Sound names → Lays text names table w (literal n) names (put table w.code (pos 2 ∷ pos n ∷ [])) (moved_to (one_instruction w) m) 1
   unfolding resolve size need code encode
   lays_literal n = lays_alone (literal n) (literal n) (push_int (pos n)) 1 refl refl refl (le_refl 1) refl
 
-  pub lays_error : (m : Lexeme) → w.next.place < m.place → Sound names → Lays text names table w error names (put table w.code (pos 1 ∷ pos 1 ∷ [])) (one_instruction (moved_to w m)) (record { need = 0 })
+  pub lays_error : (m : Lexeme) → w.next.place < m.place → Sound names → Lays text names table w error names (put table w.code (pos 1 ∷ pos 1 ∷ [])) (one_instruction (moved_to w m)) 0
   unfolding moved_to one_instruction resolve size need code encode
   lays_error = lays_alone error error (halt 1) 0 refl refl refl (omega arith) refl
 
   pub lays_quoted : (line : Bool) (q : Quoted) (m : Lexeme) → q.place ≡ w.next.place + 1 → w.next.place < m.place → Sound names →
-      Lays text names table w (quoted line q) names (put table w.code (printing_number line ∷ pos (w.next.place + 1) ∷ [])) (moved_to (one_instruction w) m) (record { need = 0 })
+      Lays text names table w (quoted line q) names (put table w.code (printing_number line ∷ pos (w.next.place + 1) ∷ [])) (moved_to (one_instruction w) m) 0
   unfolding resolve size need code encode opcode quoted printing_number
   lays_quoted true q m p = rw (← p) (lays_alone (print_line q) (print_line q) (print_str_ln q.place) 0 refl refl refl (omega arith) refl m)
   lays_quoted false q m p = rw (← p) (lays_alone (print_string q) (print_string q) (print_str q.place) 0 refl refl refl (omega arith) refl m)
@@ -157,7 +156,7 @@ module _ {text names : List ℕ} {table : List ℤ} {w : Walk} where
 -- ---- one part
 
 -- the code of a part, then one instruction
-pub laid_more : {k l : Kind} {table table' : List ℤ} {w u v : Walk} {g : Gives} {y : Sen ℕ k} (z : Sen ℕ l) (i : Instruction) → u.code ≡ w.code → size z ≡ size y + 1 → need z ≡ need y → code w.code z ≡ code w.code y ++ i ∷ [] →
+pub laid_more : {k l : Kind} {table table' : List ℤ} {w u v : Walk} {g : ℕ} {y : Sen ℕ k} (z : Sen ℕ l) (i : Instruction) → u.code ≡ w.code → size z ≡ size y + 1 → need z ≡ need y → code w.code z ≡ code w.code y ++ i ∷ [] →
     Laid table table' u v g y → Laid table (put table' v.code (encode i [])) w (one_instruction v) g z
 unfolding one_instruction
 laid_more {table} {table'} {w} {u} {v} {y} z i a s d c p = record {
@@ -166,7 +165,7 @@ laid_more {table} {table'} {w} {u} {v} {y} z i a s d c p = record {
   numbers = sym (ap (emit table w.code) c ∙ rw (← a) (emit_code table u.code y (i ∷ []) ∙ rw (← p.code, ← p.numbers) (emit_one table' v.code i)));
 }
 
-module _ {k l : Kind} {text names names' : List ℕ} {table table' : List ℤ} {w v : Walk} {g : Gives} {x : Sen Name k} {z : Sen Name l} (make : Sen ℕ k → Sen ℕ l) (e : resolve (room names) z ≡ (resolve (room names) x >>= λ a. give (make a))) where
+module _ {k l : Kind} {text names names' : List ℕ} {table table' : List ℤ} {w v : Walk} {g : ℕ} {x : Sen Name k} {z : Sen Name l} (make : Sen ℕ k → Sen ℕ l) (e : resolve (room names) z ≡ (resolve (room names) x >>= λ a. give (make a))) where
   -- with the code of its part
   lays_same : spare l ≤ spare k → ((y : Sen ℕ k) → size (make y) ≡ size y) → ((y : Sen ℕ k) → need (make y) ≡ need y) → ((a : ℕ) (y : Sen ℕ k) → code a (make y) ≡ code a y) → Lays text names table w x names' table' v g → Lays text names table w z names' table' v g
   lays_same h s d c p = lays (rw e (agrees_one make written (resolve (room names) x) (stand text names w) (agrees p))) (omega (arith, p.small)) p.sound p.kept
@@ -181,7 +180,7 @@ module _ {k l : Kind} {text names names' : List ℕ} {table table' : List ℤ} {
   lays_more i s d c m h j p =
       lays (rw e (agrees_one make (λ y. laid_more (make y) i refl (s y) (d y) (c w.code y)) (resolve (room names) x) (stand text names w) (agrees p))) (omega (arith, p.small)) p.sound p.kept
 
-module _ {text names names' : List ℕ} {table table' : List ℤ} {w v : Walk} {g : Gives} where
+module _ {text names names' : List ℕ} {table table' : List ℤ} {w v : Walk} {g : ℕ} where
   pub lays_bracket : {x : Sen Name expression} → Lays text names table w x names' table' v g → Lays text names table w (bracket x) names' table' v g
   unfolding resolve size need code spare
   lays_bracket = lays_same bracket refl (le_refl 2) (λ y. refl) (λ y. refl) (λ a y. refl)
@@ -216,7 +215,7 @@ module _ {text names names' : List ℕ} {table table' : List ℤ} {w v : Walk} {
 
 -- ---- two parts
 
-module _ {k j l : Kind} {text names names₁ names₂ : List ℕ} {table table₁ table₂ table₃ : List ℤ} {w c u v₂ v : Walk} {g h d : Gives} {x : Sen Name k} {y : Sen Name j} {z : Sen Name l} where
+module _ {k j l : Kind} {text names names₁ names₂ : List ℕ} {table table₁ table₂ table₃ : List ℤ} {w c u v₂ v : Walk} {g h d : ℕ} {x : Sen Name k} {y : Sen Name j} {z : Sen Name l} where
   lays_two : (make : Sen ℕ k → Sen ℕ j → Sen ℕ l) → resolve (room names) z ≡ (resolve (room names) x >>= λ a. resolve (room names) y >>= λ b. give (make a b)) →
       Lays text names table w x names₁ table₁ c g → Lays text names₁ table₁ u y names₂ table₂ v₂ h → stand text names₁ u ≡ stand text names₁ c → stand text names₂ v₂ ≡ stand text names₂ v →
       ((a : Sen ℕ k) (b : Sen ℕ j) → Laid table table₁ w c g a → Laid table₁ table₂ u v₂ h b → Laid table table₃ w v d (make a b)) → Small l w v d → Sound names₂ → Lays text names table w z names₂ table₃ v d
@@ -228,9 +227,9 @@ module _ {k j l : Kind} {text names names₁ names₂ : List ℕ} {table table�
       after = rw (← a, ← p.kept.long) (agrees q)
 
 -- the code of both parts, then an operation
-laid_joined : {k j l : Kind} {table table₁ table₂ : List ℤ} {w c v : Walk} {g h : Gives} {x : Sen ℕ k} {y : Sen ℕ j} (z : Sen ℕ l) (o : TwoSidedOperation) (n : ℤ) (m : Lexeme) → n ≡ number o →
+laid_joined : {k j l : Kind} {table table₁ table₂ : List ℤ} {w c v : Walk} {g h : ℕ} {x : Sen ℕ k} {y : Sen ℕ j} (z : Sen ℕ l) (o : TwoSidedOperation) (n : ℤ) (m : Lexeme) → n ≡ number o →
     size z ≡ size x + size y + 1 → need z ≡ max (need x) (1 + need y) → code w.code z ≡ code w.code x ++ (code (w.code + size x) y ++ two_sided o ∷ []) →
-    Laid table table₁ w c g x → Laid table₁ table₂ (moved_to c m) v h y → Laid table (put table₂ v.code (n ∷ pos 0 ∷ [])) w (one_instruction v) (record { need = max g.need (1 + h.need) }) z
+    Laid table table₁ w c g x → Laid table₁ table₂ (moved_to c m) v h y → Laid table (put table₂ v.code (n ∷ pos 0 ∷ [])) w (one_instruction v) (max g (1 + h)) z
 unfolding moved_to one_instruction encode
 laid_joined {table} {table₁} {table₂} {w} {c} {v} {x} {y} z o n m e s d f p q = record {
   code = omega (arith, p.code, q.code, s);
@@ -239,21 +238,21 @@ laid_joined {table} {table₁} {table₂} {w} {c} {v} {x} {y} z o n m e s d f p 
       ∙ rw (← p.code, ← p.numbers) (emit_code table₁ c.code y (two_sided o ∷ []) ∙ rw (← q.code, ← q.numbers, e) (emit_one table₂ v.code (two_sided o))));
 }
 
-module _ {text names names₁ names₂ : List ℕ} {table table₁ table₂ : List ℤ} {w left v : Walk} {g h : Gives} where
+module _ {text names names₁ names₂ : List ℕ} {table table₁ table₂ : List ℤ} {w left v : Walk} {g h : ℕ} where
   pub lays_multiply : {x : Sen Name term} {y : Sen Name factor} (o : Mul) (m : Lexeme) → left.next.place < m.place → Lays text names table w x names₁ table₁ left g → Lays text names₁ table₁ (moved_to left m) y names₂ table₂ v h →
-      Lays text names table w (multiply x o y) names₂ (put table₂ v.code (operation_number (number_of (mul o)) ∷ pos 0 ∷ [])) (one_instruction v) (record { need = max g.need (1 + h.need) })
+      Lays text names table w (multiply x o y) names₂ (put table₂ v.code (operation_number (number_of (mul o)) ∷ pos 0 ∷ [])) (one_instruction v) (max g (1 + h))
   unfolding moved_to one_instruction stand resolve size need code spare
   lays_multiply o m i p q =
       lays_two (λ a b. multiply a o b) refl p q refl refl (λ a b. laid_joined (multiply a o b) (of_mul o) (operation_number (number_of (mul o))) m (mul_operation o) refl refl (code_multiply w.code a o b)) (omega (arith, p.small, q.small)) q.sound
 
   pub lays_add : {x : Sen Name expression} {y : Sen Name term} (o : Sign) (m : Lexeme) → left.next.place < m.place → Lays text names table w x names₁ table₁ left g → Lays text names₁ table₁ (moved_to left m) y names₂ table₂ v h →
-      Lays text names table w (add x o y) names₂ (put table₂ v.code (operation_number (number_of (sign o)) ∷ pos 0 ∷ [])) (one_instruction v) (record { need = max g.need (1 + h.need) })
+      Lays text names table w (add x o y) names₂ (put table₂ v.code (operation_number (number_of (sign o)) ∷ pos 0 ∷ [])) (one_instruction v) (max g (1 + h))
   unfolding moved_to one_instruction stand resolve size need code spare
   lays_add o m i p q =
       lays_two (λ a b. add a o b) refl p q refl refl (λ a b. laid_joined (add a o b) (of_sign o) (operation_number (number_of (sign o))) m (sign_operation o) refl refl (code_add w.code a o b)) (omega (arith, p.small, q.small)) q.sound
 
   pub lays_compare : {x y : Sen Name expression} (o : Rel) (m : Lexeme) → left.next.place < m.place → Lays text names table w x names₁ table₁ left g → Lays text names₁ table₁ (moved_to left m) y names₂ table₂ v h →
-      Lays text names table w (compare x o y) names₂ (put table₂ v.code (operation_number (number_of (rel o)) ∷ pos 0 ∷ [])) (one_instruction v) (record { need = max g.need (1 + h.need) })
+      Lays text names table w (compare x o y) names₂ (put table₂ v.code (operation_number (number_of (rel o)) ∷ pos 0 ∷ [])) (one_instruction v) (max g (1 + h))
   unfolding moved_to one_instruction stand resolve size need code spare
   lays_compare o m i p q =
       lays_two (λ a b. compare a o b) refl p q refl refl (λ a b. laid_joined (compare a o b) (of_rel o) (operation_number (number_of (rel o))) m (rel_operation o) refl refl (code_compare w.code a o b)) (omega (arith, p.small, q.small)) q.sound
@@ -266,8 +265,8 @@ guarded true x y = while x y
 guarded false x y = when x y
 
 -- the condition's code, and its jump over the rest to the walk's end
-laid_over : {table table₁ table₂ : List ℤ} {w c v : Walk} {g d : Gives} {x : Sen ℕ condition} (z : Sen ℕ command) (is : List Instruction) → code w.code z ≡ code w.code x ++ jump_if_false v.code ∷ is →
-    v.code ≡ w.code + size z → d.need ≡ need z → Laid table table₁ w c g x → table₂ ≡ emit table₁ (c.code + 1) is → Laid table (put table₂ c.code (pos 6 ∷ pos v.code ∷ [])) w v d z
+laid_over : {table table₁ table₂ : List ℤ} {w c v : Walk} {g d : ℕ} {x : Sen ℕ condition} (z : Sen ℕ command) (is : List Instruction) → code w.code z ≡ code w.code x ++ jump_if_false v.code ∷ is →
+    v.code ≡ w.code + size z → d ≡ need z → Laid table table₁ w c g x → table₂ ≡ emit table₁ (c.code + 1) is → Laid table (put table₂ c.code (pos 6 ∷ pos v.code ∷ [])) w v d z
 unfolding encode
 laid_over {table} {table₁} {w} {c} {v} {x} z is e s n p t = record {
   code = s;
@@ -275,13 +274,13 @@ laid_over {table} {table₁} {w} {c} {v} {x} z is e s n p t = record {
   numbers = rw (t, e, emit_code table w.code x (jump_if_false v.code ∷ is), ← p.code, ← p.numbers) (put_before table₁ c.code (jump_if_false v.code) is);
 }
 
-module _ {table table₁ table₂ : List ℤ} {w c v : Walk} {g h : Gives} {x : Sen ℕ condition} {y : Sen ℕ command} (m : Lexeme) (p : Laid table table₁ w c g x) (q : Laid table₁ table₂ (one_instruction (moved_to c m)) v h y) where
-  pub laid_guarded : (again : Bool) → let u = ended_walk again v in Laid table (put (ended_table again table₂ v.code w.code) c.code (pos 6 ∷ pos u.code ∷ [])) w u (record { need = max g.need h.need }) (guarded again x y)
+module _ {table table₁ table₂ : List ℤ} {w c v : Walk} {g h : ℕ} {x : Sen ℕ condition} {y : Sen ℕ command} (m : Lexeme) (p : Laid table table₁ w c g x) (q : Laid table₁ table₂ (one_instruction (moved_to c m)) v h y) where
+  pub laid_guarded : (again : Bool) → let u = ended_walk again v in Laid table (put (ended_table again table₂ v.code w.code) c.code (pos 6 ∷ pos u.code ∷ [])) w u (max g h) (guarded again x y)
   unfolding moved_to one_instruction size need code encode ended_walk ended_table guarded
   laid_guarded true = laid_over (while x y) (code (c.code + 1) y ++ jump w.code ∷ []) (code_while w.code x y ∙ rw (q.code, p.code) refl) (omega (arith, p.code, q.code)) (ap₂ max p.need q.need) p (sym (emit_code table₁ (c.code + 1) y (jump w.code ∷ []) ∙ rw (← q.code, ← q.numbers) (emit_one table₂ v.code (jump w.code))))
   laid_guarded false = laid_over (when x y) (code (c.code + 1) y) (code_when w.code x y ∙ rw (q.code, p.code) refl) (omega (arith, p.code, q.code)) (ap₂ max p.need q.need) p q.numbers
 
-laid_then : {table table₁ table₂ : List ℤ} {w c v : Walk} {g h : Gives} {x : Sen ℕ commands} {y : Sen ℕ command} → Laid table table₁ w c g x → Laid table₁ table₂ c v h y → Laid table table₂ w v (record { need = max g.need h.need }) (then x y)
+laid_then : {table table₁ table₂ : List ℤ} {w c v : Walk} {g h : ℕ} {x : Sen ℕ commands} {y : Sen ℕ command} → Laid table table₁ w c g x → Laid table₁ table₂ c v h y → Laid table table₂ w v (max g h) (then x y)
 unfolding size need code
 laid_then {table} {w} {x} {y} p q = record {
   code = omega (arith, p.code, q.code);
@@ -289,8 +288,8 @@ laid_then {table} {w} {x} {y} p q = record {
   numbers = q.numbers ∙ sym (ap (emit table w.code) (code_then w.code x y) ∙ emit_code table w.code x (code (w.code + size x) y) ∙ rw (← p.code, ← p.numbers) refl);
 }
 
-module _ {text names names₁ names₂ : List ℕ} {table table₁ table₂ : List ℤ} {w c v : Walk} {g h : Gives} {y : Sen Name command} where
-  pub lays_then : {x : Sen Name commands} → Lays text names table w x names₁ table₁ c g → Lays text names₁ table₁ c y names₂ table₂ v h → Lays text names table w (then x y) names₂ table₂ v (record { need = max g.need h.need })
+module _ {text names names₁ names₂ : List ℕ} {table table₁ table₂ : List ℤ} {w c v : Walk} {g h : ℕ} {y : Sen Name command} where
+  pub lays_then : {x : Sen Name commands} → Lays text names table w x names₁ table₁ c g → Lays text names₁ table₁ c y names₂ table₂ v h → Lays text names table w (then x y) names₂ table₂ v (max g h)
   unfolding stand resolve spare
   lays_then p q = lays_two then refl p q refl refl (λ a b. laid_then {x = a} {y = b}) (omega (arith, p.small, q.small)) q.sound
 
@@ -302,9 +301,9 @@ module _ {text names : List ℕ} {w : Walk} {allow : ℕ} (r : Ready text names 
   unfolding moved_to
   ready_moved m fewer f h s = record { stands = s; short = r.short; code = omega (arith, r.code); sound = r.sound; allowed = omega (arith, r.allowed) }
 
-  module _ {names' : List ℕ} {table table' : List ℤ} {v : Walk} {g : Gives} {k : Kind} {x : Sen Name k} (p : Lays text names table w x names' table' v g) where
+  module _ {names' : List ℕ} {table table' : List ℤ} {v : Walk} {g : ℕ} {k : Kind} {x : Sen Name k} (p : Lays text names table w x names' table' v g) where
     -- the counts are in the range of the code's numbers
-    pub counts_fit : Stands text v.next → (v.code < 10000000) × (g.need < 10000000)
+    pub counts_fit : Stands text v.next → (v.code < 10000000) × (g < 10000000)
     counts_fit s = (omega (arith, r.short, r.code, p.small), omega (arith, r.short, p.small))
 
     -- after a construct

@@ -10,19 +10,18 @@ use borrow.Author.Tests.{lt-ltb, le-ltb}
 use lib.Dec.{ltb}
 use Rattle.base.specs.declared.Refusal.{Refusal}
 use Rattle.base.specs.declared.Refusal.TheVariants.{NoProgram, TooDeep}
+use Rattle.base.specs.declared.Refused.{Refused}
 use Rattle.base.specs.Answers.{Answer, given, refused}
-use Rattle.lexeme.specs.Lexemes.{Name, Lexeme, Fixed, Placed, next}
-use Rattle.lexeme.specs.inner.Coded.{code_of, coded, fixed_number, told, placed, Ends, Stands, Number, Ahead}
+use Rattle.lexeme.specs.Lexemes.{Name, Lexeme, Fixed, Placed}
+use Rattle.lexeme.specs.inner.Coded.{code_of, fixed_number, told, placed, Ends, Stands, Number, Ahead}
 use Rattle.lexeme.specs.declared.Lexeme as code
-use Rattle.lexeme.specs.declared.Found.TheVariants as reply
 use Rattle.lexeme.proofs.Ahead.{begins, not_ahead}
+use Rattle.std.specs.Prelude.{Err}
 use Rattle.sentence.specs.Sentences.{Kind, Sen, command}
 use Rattle.sentence.proofs.Reader.{Around, depth, State, whole, nowhere, is, step, Verdict, verdict, goes_on, is_whole, begins_none, read_from}
 use Rattle.compiler.specs.declared.walk.Walk.{Walk}
-use Rattle.compiler.specs.declared.walk.Gives.{Gives}
-use Rattle.compiler.specs.declared.walk.Read.TheVariants.{Done, Refused}
-use Rattle.compiler.specs.inner.Steps.{Follows, Past, Advances, Expects}
-use Rattle.compiler.specs.inner.Walks.{read_via, Passes, Refuses}
+use Rattle.compiler.specs.inner.Steps.{Lost, Follows, Crossed, Expects}
+use Rattle.compiler.specs.inner.Walks.{read_via, Way, Passes, Refuses}
 use Rattle.compiler.proofs.Looked.{going, no_fixed}
 
 -- ---- one lexeme
@@ -141,7 +140,7 @@ module _ {I : Type 0} (text : List ℕ) (l : code.Lexeme) {limit : I → ℕ} (f
   too_deep t e deep = record { same = λ ls a i. rw (begins a).split (via_deep (limit i) (placed text l) _ (f i) (t i) (e i) (deep i)) }
 
   -- what follows is no lexeme: no lexemes are ahead
-  pub lost : {why : Refusal} {p : ℕ} → (Ends l → ⊥) → reply.Refused why p ≡ coded (next text l.end) → Stuck text l limit f why p
+  pub lost : {e : Refused} → (Ends l → ⊥) → Lost text l e → Stuck text l limit f e.why e.place
   lost on_it e = record { same = λ ls a i. absurd (not_ahead on_it _ _ e a) }
 
 -- the end of a whole Program
@@ -153,48 +152,34 @@ ended {text} {l} limit f m last e ls a =
 
 -- ---- from construct to construct
 
--- how a construct is read: from which state, and what comes after it
-pub record Way (k : Kind) (X : Type 0) : Type 0 where
-  pub start : Around k → State
-  pub stop : X → Around k → Lexeme → State
-
-module _ {k : Kind} {X : Type 0} (way : Way k X) (text : List ℕ) (l : code.Lexeme) where
-  abbrev pub Passed : code.Lexeme → ℕ → X → Type 0
-  Passed m allow x = Passes text l m allow k way.start (way.stop x)
-
-  abbrev pub Barred : ℕ → Refusal → ℕ → Type 0
-  Barred allow why p = Refuses text l allow k way.start why p
-
-module _ {k : Kind} {text : List ℕ} {l : code.Lexeme} {allow : ℕ} {start : Around k → State} where
-  pub comes : {m : code.Lexeme} {stop : Around k → Lexeme → State} → Passes text l m allow k start stop → Comes text l m (λ a. depth a + allow) (λ a. step (start a)) stop
+module _ {k : Kind} {X : Type 0} {way : Way k X} {text : List ℕ} {l : code.Lexeme} {allow : ℕ} where
+  pub comes : {m : code.Lexeme} {x : X} → Passes way text l m allow x → Comes text l m (λ a. depth a + allow) (λ a. step (way.start a)) (way.stop x)
   comes p = record {
     same = λ ls h.
         let c = p.same ls h in
-        (c.0, c.1, λ a. sym (from_via (depth a + allow) (start a) h) ∙ c.2 a);
+        (c.0, c.1, λ a. sym (from_via (depth a + allow) (way.start a) h) ∙ c.2 a);
   }
 
-  pub passes : {m : code.Lexeme} {stop : Around k → Lexeme → State} → l.place < m.place → Stands text m → Comes text l m (λ (a : Around k). depth a + allow) (λ a. step (start a)) stop → Passes text l m allow k start stop
+  pub passes : {m : code.Lexeme} {x : X} → l.place < m.place → Stands text m → Comes text l m (λ (a : Around k). depth a + allow) (λ a. step (way.start a)) (way.stop x) → Passes way text l m allow x
   passes later stands c = record {
     later = later;
     stands = stands;
     same = λ ls h.
         let d = c.same ls h in
-        (d.0, d.1, λ a. from_via (depth a + allow) (start a) h ∙ d.2 a);
+        (d.0, d.1, λ a. from_via (depth a + allow) (way.start a) h ∙ d.2 a);
   }
 
-module _ {k : Kind} (text : List ℕ) (l : code.Lexeme) (allow : ℕ) (start : Around k → State) (why : Refusal) (p : ℕ) where
-  pub stuck : Refuses text l allow k start why p → Stuck text l (λ a. depth a + allow) (λ a. step (start a)) why p
-  unfolding Refuses
-  stuck q = record { same = λ ls h a. sym (from_via (depth a + allow) (start a) h) ∙ q ls h a }
+module _ {k : Kind} {start : Around k → State} {text : List ℕ} {l : code.Lexeme} {allow : ℕ} {why : Refusal} {p : ℕ} where
+  pub stuck : Refuses start text l allow why p → Stuck text l (λ a. depth a + allow) (λ a. step (start a)) why p
+  stuck q = record { same = λ ls h a. sym (from_via (depth a + allow) (start a) h) ∙ q.same ls h a }
 
-  pub refuses : Stuck text l (λ (a : Around k). depth a + allow) (λ a. step (start a)) why p → Refuses text l allow k start why p
-  unfolding Refuses
-  refuses q ls h a = from_via (depth a + allow) (start a) h ∙ q.same ls h a
+  pub refuses : Stuck text l (λ (a : Around k). depth a + allow) (λ a. step (start a)) why p → Refuses start text l allow why p
+  refuses q = record { same = λ ls h a. from_via (depth a + allow) (start a) h ∙ q.same ls h a }
 
 -- what is read by way' from the lexeme e on makes what is read by `way` from the lexeme l on
 pub record Leads {k k' : Kind} {X X' : Type 0} (text : List ℕ) (l e : code.Lexeme) (allow : ℕ) (way : Way k X) (allow' : ℕ) (way' : Way k' X') (makes : X' → X) : Type 0 where
-  pub passes : {m : code.Lexeme} (x : X') → Passed way' text e m allow' x → Passed way text l m allow (makes x)
-  pub refuses : (why : Refusal) (p : ℕ) → Barred way' text e allow' why p → Barred way text l allow why p
+  pub passes : {m : code.Lexeme} {x : X'} → Passes way' text e m allow' x → Passes way text l m allow (makes x)
+  pub refuses : {why : Refusal} {p : ℕ} → Refuses way'.start text e allow' why p → Refuses way.start text l allow why p
 
 module _ {k k' : Kind} {X X' : Type 0} {text : List ℕ} {l e : code.Lexeme} {allow : ℕ} {way : Way k X} {allow' : ℕ} {way' : Way k' X'} {makes : X' → X} (inner : Around k → Around k') where
   pub leads : l.place ≤ e.place
@@ -203,11 +188,11 @@ module _ {k k' : Kind} {X X' : Type 0} {text : List ℕ} {l e : code.Lexeme} {al
       → ((x : X') → ◌≡◌ {A = Around k → Lexeme → State} (λ a. way'.stop x (inner a)) (way.stop (makes x)))
       → Leads text l e allow way allow' way' makes
   leads near same_limit c stops = record {
-    passes = λ {m} x p.
+    passes = λ {m} {x} p.
         passes (omega (arith, p.later)) p.stands
         (subst (λ (f : Around k → Lexeme → State). Comes text l m (λ (a : Around k). depth a + allow) (λ a. step (way.start a)) f) (stops x)
         (comes_on c (comes_within inner same_limit (comes p))));
-    refuses = λ why p q. refuses text l allow way.start why p (comes_stuck c (stuck_within inner same_limit (stuck text e allow' way'.start why p q)));
+    refuses = λ q. refuses (comes_stuck c (stuck_within inner same_limit (stuck q)));
   }
 
 -- the lexeme x stands between what was read and what is read next
@@ -233,35 +218,23 @@ begins_with {k} text l allow way allow' way' makes inner d e stops =
     (subst (λ (f : Around k → State). Comes text l l (λ (a : Around k). depth a + allow) (λ a. step (way.start a)) (λ a. step (f a))) e
     stays) stops
 
-pub refuses_within : {k k' : Kind} (text : List ℕ) (l : code.Lexeme) (allow allow' : ℕ) (start' : Around k' → State) (why : Refusal) (p : ℕ) (inner : Around k → Around k')
+pub refuses_within : {k k' : Kind} {start' : Around k' → State} {text : List ℕ} {l : code.Lexeme} {allow allow' : ℕ} {why : Refusal} {p : ℕ} (inner : Around k → Around k')
     → ((a : Around k) → depth (inner a) + allow' ≡ depth a + allow)
-    → Refuses text l allow' k' start' why p
-    → Refuses text l allow k (λ a. start' (inner a)) why p
-refuses_within text l allow allow' start' why p inner d q = refuses text l allow (λ a. start' (inner a)) why p (stuck_within inner d (stuck text l allow' start' why p q))
+    → Refuses start' text l allow' why p
+    → Refuses (λ a. start' (inner a)) text l allow why p
+refuses_within inner d q = refuses (stuck_within inner d (stuck q))
 
--- ---- an advance, and an expected lexeme
+-- ---- an expected lexeme
 
 -- the lexeme l has the number of the fixed one w, and m follows it
 pub record Met (text : List ℕ) (l m : code.Lexeme) (w : Fixed) : Type 0 where
   pub number : fixed_number l.kind ≡ code_of w
   pub follows : Follows text l m
 
-module _ (text : List ℕ) (w : Walk) (need : ℕ) where
-  pub past : (v : Walk) (g : Gives) → Advances text w need (Done v g) → Past text w v
-  unfolding Advances
-  past v g a = a.0
+pub met : {text : List ℕ} {w v : Walk} {f : Fixed} → Crossed text w (code_of f) v → Met text w.next v.next f
+met c = record { number = c.number; follows = c.past.follows }
 
-  pub met : (f : Fixed) (v : Walk) (g : Gives) → Expects text w (code_of f) need (Done v g) → Met text w.next v.next f
-  unfolding Expects Advances
-  met f v g (inl (n, a)) = record { number = n; follows = a.0.follows }
-  met f v g (inr (n, e)) = let z : ◌≡◌ {A = ℕ} 0 1 = cc in absurd (omega arith)
-
-  -- no state passes the lexeme ahead, or what follows it is no lexeme
-  pub unmet : {I : Type 0} {limit : I → ℕ} (why : Refusal) (p : ℕ) (f : Fixed) → (code_of f ≡ 0 → ⊥) → Stands text w.next → (to : I → Lexeme → State) → ((i : I) (x : Lexeme) → is f x ≡ false → to i x ≡ nowhere) → Expects text w (code_of f) need (Refused why p) → Stuck text w.next limit to why p
-  unfolding Expects Advances
-  unmet why p f n s to t (inl (h, a)) = lost text w.next to (going w.next h n) a
-  unmet {limit} why p f n s to t (inr (h, e)) =
-      let it : Stuck text w.next limit to NoProgram w.next.place = none text w.next to (λ i. t i (told text w.next) (no_fixed s f h)) in
-      let a : why ≡ NoProgram = cc in
-      let b : p ≡ w.next.place = cc in
-      rw (a, b) it
+-- no state passes the lexeme ahead, or what follows it is no lexeme
+pub unmet : {I : Type 0} {text : List ℕ} {limit : I → ℕ} (w : Walk) (f : Fixed) {e : Refused} → (code_of f ≡ 0 → ⊥) → Stands text w.next → (to : I → Lexeme → State) → ((i : I) (x : Lexeme) → is f x ≡ false → to i x ≡ nowhere) → Expects text w (code_of f) (Err e) → Stuck text w.next limit to e.why e.place
+unmet {text} w f n s to t (inl (h, a)) = lost text w.next to (going w.next h n) a
+unmet {text} w f n s to t (inr (h, e)) = rw e (none text w.next to (λ i. t i (told text w.next) (no_fixed s f h)))

@@ -4,21 +4,27 @@ ghost use Rattle.lexeme.specs.inner.Coded.{code_of, fixed_number};
 ghost use Rattle.compiler.specs.inner.Steps.{moved_to, printing_number, has_body, before_body, ended_walk, ended_table};
 ghost use Rattle.compiler.specs.inner.Walks.{Ready, First, ReadsCommand, ReadsPrint, ReadsString, ReadsDeclare, ReadsRead, ReadsAssign, ReadsBody, ReadsGuarded, ReadsBlock};
 
-use crate::walk::{Gives, Read, Walk};
+use crate::walk::{Read, Walk};
 use crate::{expression, naming, walk};
-use base::Refusal;
+use base::{Refusal, Refused};
 use instruction::operations;
 use lexeme::{Kind, Lexeme, fixed};
 
 // ---- after the first lexeme of a command without a body
 
 // After PRINTI.
-fn print_int(allow: usize, text: &[u8], names: &[usize], table: &mut [i32], w: Walk) -> Read
+fn print_int(
+    allow: usize,
+    text: &[u8],
+    names: &[usize],
+    table: &mut [i32],
+    w: Walk,
+) -> Result<Read, Refused>
     requires { Ready text.now names.now w allow }
     ensures { ReadsPrint text.now names.now table.old w allow result names.now table.new }
 {
-    let r = expression::expression(allow, text, names, table, w);
-    walk::followed(table, r, operations::PRINT_INT, 0)
+    let r = expression::expression(allow, text, names, table, w)?;
+    Ok(walk::followed(table, r, operations::PRINT_INT, 0))
 }
 
 // The operation of PRINTLNS, which prints a line, or of PRINTS.
@@ -40,65 +46,91 @@ fn print_string(
     table: &mut [i32],
     w: Walk,
     line: bool,
-) -> Read
+) -> Result<Read, Refused>
     requires { Ready text.now names.now w allow }
     ensures { ReadsString line text.now names.now table.old w allow result names.now table.new }
 {
-    let l = w.next;
-    let kind = l.kind;
-    let Kind::Str = kind else {
-        return Read::Refused(Refusal::NoProgram, l.place);
+    let Kind::Str = w.next.kind else {
+        return Err(Refused {
+            why: Refusal::NoProgram,
+            place: w.next.place,
+        });
     };
-    let s = (l.place + 1) as i32;
-    walk::advance(text, walk::emitted(table, w, printing(line), s), 0)
+    let s = (w.next.place + 1) as i32;
+    let x = walk::emitted(table, w, printing(line), s);
+    Ok(Read {
+        walk: walk::advance(text, x)?,
+        need: 0,
+    })
 }
 
 // After INT.
-fn declare(allow: usize, text: &[u8], names: &mut [usize], table: &mut [i32], w: Walk) -> Read
+fn declare(
+    allow: usize,
+    text: &[u8],
+    names: &mut [usize],
+    table: &mut [i32],
+    w: Walk,
+) -> Result<Read, Refused>
     requires { Ready text.now names.old w allow }
     ensures { ReadsDeclare text.now names.old table.old w allow result names.new table.new }
 {
-    let l = w.next;
-    let kind = l.kind;
-    let Kind::Name = kind else {
-        return Read::Refused(Refusal::NoProgram, l.place);
+    let Kind::Name = w.next.kind else {
+        return Err(Refused {
+            why: Refusal::NoProgram,
+            place: w.next.place,
+        });
     };
     let s = scopes::counts(names);
     let x = walk::emitted(table, w, operations::PUSH_INT, 0);
     let y = walk::emitted(table, x, operations::STORE_STACK, s.next_cell as i32);
-    walk::advance(text, naming::declared(names, y), 1)
+    Ok(Read {
+        walk: walk::advance(text, naming::declared(names, y))?,
+        need: 1,
+    })
 }
 
 // After READ.
-fn read(allow: usize, text: &[u8], names: &[usize], table: &mut [i32], w: Walk) -> Read
+fn read(
+    allow: usize,
+    text: &[u8],
+    names: &[usize],
+    table: &mut [i32],
+    w: Walk,
+) -> Result<Read, Refused>
     requires { Ready text.now names.now w allow }
     ensures { ReadsRead text.now names.now table.old w allow result names.now table.new }
 {
-    let l = w.next;
-    let kind = l.kind;
-    let Kind::Name = kind else {
-        return Read::Refused(Refusal::NoProgram, l.place);
+    let Kind::Name = w.next.kind else {
+        return Err(Refused {
+            why: Refusal::NoProgram,
+            place: w.next.place,
+        });
     };
     let x = walk::emitted(table, w, operations::READ, 0);
-    walk::advance(
-        text,
-        naming::used(text, names, table, x, operations::STORE_STACK),
-        1,
-    )
+    let y = naming::used(text, names, table, x, operations::STORE_STACK);
+    Ok(Read {
+        walk: walk::advance(text, y)?,
+        need: 1,
+    })
 }
 
 // After the name l. It is looked up first, since it stands left of the Expression's names.
-fn assign(allow: usize, text: &[u8], names: &[usize], table: &mut [i32], w: Walk, l: Lexeme) -> Read
+fn assign(
+    allow: usize,
+    text: &[u8],
+    names: &[usize],
+    table: &mut [i32],
+    w: Walk,
+    l: Lexeme,
+) -> Result<Read, Refused>
     requires { Ready text.now names.now w allow }
     ensures { ReadsAssign l text.now names.now table.old w allow result names.now table.new }
 {
     let c = scopes::look_up(text, names, l.place, l.end);
-    let a = walk::expect(text, naming::noted(w, c, l), b':', 0);
-    let Read::Done(x, _) = a else {
-        return a;
-    };
-    let r = expression::expression(allow, text, names, table, x);
-    walk::followed(table, r, operations::STORE_STACK, naming::operand(c))
+    let x = walk::expect(text, naming::noted(w, c, l), b':')?;
+    let r = expression::expression(allow, text, names, table, x)?;
+    Ok(walk::followed(table, r, operations::STORE_STACK, naming::operand(c)))
 }
 
 // ---- around the body of an IF or a WHILE
@@ -131,27 +163,28 @@ fn without_body(
     table: &mut [i32],
     w: Walk,
     l: Lexeme,
-) -> Read
+) -> Result<Read, Refused>
     requires first { First text.now names.old (moved_to w l) allow w }
     requires kind_value { has_body (fixed_number l.kind) ≡ false }
     ensures { ReadsCommand text.now names.old table.old (moved_to w l) allow result names.new table.new }
 {
-    let kind = l.kind;
-    if let Kind::Name = kind {
+    if let Kind::Name = l.kind {
         return assign(allow, text, names, table, w, l);
     }
-    let f = lexeme::fixed_of(kind);
-    match f {
-        fixed::ERROR => Read::Done(
-            walk::emitted(table, w, operations::HALT, 1),
-            Gives { need: 0 },
-        ),
+    match lexeme::fixed_of(l.kind) {
+        fixed::ERROR => Ok(Read {
+            walk: walk::emitted(table, w, operations::HALT, 1),
+            need: 0,
+        }),
         fixed::INT => declare(allow, text, names, table, w),
         fixed::PRINTI => print_int(allow, text, names, table, w),
         fixed::PRINTLNS => print_string(allow, text, names, table, w, true),
         fixed::PRINTS => print_string(allow, text, names, table, w, false),
         fixed::READ => read(allow, text, names, table, w),
-        _ => Read::Refused(Refusal::NoProgram, l.place),
+        _ => Err(Refused {
+            why: Refusal::NoProgram,
+            place: l.place,
+        }),
     }
 }
 
@@ -166,21 +199,26 @@ fn has_body(f: u8) -> bool
 }
 
 #[cycle(block_body_command_guarded)]
-pub fn command(allow: usize, text: &[u8], names: &mut [usize], table: &mut [i32], w: Walk) -> Read
+pub fn command(
+    allow: usize,
+    text: &[u8],
+    names: &mut [usize],
+    table: &mut [i32],
+    w: Walk,
+) -> Result<Read, Refused>
     requires { Ready text.now names.old w allow }
     ensures { ReadsCommand text.now names.old table.old w allow result names.new table.new }
 {
-    let l = w.next;
     let f = walk::fixed_ahead(w);
-    let a = walk::advance(text, w, 0);
-    let Read::Done(x, _) = a else {
-        return a;
-    };
+    let x = walk::advance(text, w)?;
     if !has_body(f) {
-        return without_body(allow, text, names, table, x, l);
+        return without_body(allow, text, names, table, x, w.next);
     }
     if allow == 0 {
-        return Read::Refused(Refusal::TooDeep, l.place);
+        return Err(Refused {
+            why: Refusal::TooDeep,
+            place: w.next.place,
+        });
     }
     if f == b'{' {
         return block(allow - 1, text, names, table, x);
@@ -197,35 +235,30 @@ fn guarded(
     table: &mut [i32],
     w: Walk,
     again: bool,
-) -> Read
+) -> Result<Read, Refused>
     requires { Ready text.now names.old w (suc allow) }
     ensures { ReadsGuarded again text.now names.old table.old w allow result names.new table.new }
 {
-    let r = expression::condition(allow, text, names, table, w);
-    let Read::Done(c, g) = r else {
-        return r;
-    };
-    let s = walk::expect(text, c, before_body(again), 0);
-    let Read::Done(x, _) = s else {
-        return s;
-    };
-    let t = body(allow, text, names, table, walk::skipped(x));
-    let Read::Done(y, h) = t else {
-        return t;
-    };
-    let end = ended(table, y, again, w.code);
-    tables::put_jump_if_false(table, c.code, end.code);
-    Read::Done(
-        end,
-        Gives {
-            need: walk::larger(g.need, h.need),
-        },
-    )
+    let test = expression::condition(allow, text, names, table, w)?;
+    let x = walk::expect(text, test.walk, before_body(again))?;
+    let inside = body(allow, text, names, table, walk::skipped(x))?;
+    let end = ended(table, inside.walk, again, w.code);
+    tables::put_jump_if_false(table, test.walk.code, end.code);
+    Ok(Read {
+        walk: end,
+        need: test.need.max(inside.need),
+    })
 }
 
 // The body of an IF or a WHILE, with so many nestings allowed inside: a Command in a scope of its own.
 #[cycle(block_body_command_guarded)]
-fn body(allow: usize, text: &[u8], names: &mut [usize], table: &mut [i32], w: Walk) -> Read
+fn body(
+    allow: usize,
+    text: &[u8],
+    names: &mut [usize],
+    table: &mut [i32],
+    w: Walk,
+) -> Result<Read, Refused>
     requires { Ready text.now names.old w (suc allow) }
     ensures { ReadsBody text.now names.old table.old w allow result names.new table.new }
 {
@@ -238,30 +271,29 @@ fn body(allow: usize, text: &[u8], names: &mut [usize], table: &mut [i32], w: Wa
 
 // After `{`, with so many nestings allowed inside.
 #[cycle(block_body_command_guarded)]
-fn block(allow: usize, text: &[u8], names: &mut [usize], table: &mut [i32], w: Walk) -> Read
+fn block(
+    allow: usize,
+    text: &[u8],
+    names: &mut [usize],
+    table: &mut [i32],
+    w: Walk,
+) -> Result<Read, Refused>
     requires { Ready text.now names.old w (suc allow) }
     ensures { ReadsBlock text.now names.old table.old w allow result names.new table.new }
 {
     let before = scopes::counts(names);
     scopes::open(names);
-    let mut so_far = command(allow, text, names, table, w);
-    loop {
-        let Read::Done(done, g) = so_far else {
-            return so_far;
+    let mut so_far = command(allow, text, names, table, w)?;
+    while walk::fixed_ahead(so_far.walk) != b'}' {
+        let r = command(allow, text, names, table, so_far.walk)?;
+        so_far = Read {
+            walk: r.walk,
+            need: so_far.need.max(r.need),
         };
-        if walk::fixed_ahead(done) == b'}' {
-            scopes::close(names, before);
-            return walk::advance(text, done, g.need);
-        }
-        let r = command(allow, text, names, table, done);
-        let Read::Done(y, h) = r else {
-            return r;
-        };
-        so_far = Read::Done(
-            y,
-            Gives {
-                need: walk::larger(g.need, h.need),
-            },
-        );
     }
+    scopes::close(names, before);
+    Ok(Read {
+        walk: walk::advance(text, so_far.walk)?,
+        need: so_far.need,
+    })
 }

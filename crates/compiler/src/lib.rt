@@ -14,73 +14,65 @@ ghost use Rattle.compiler.specs.Compiled.{Judged, Compiled, WithAnswer};
 ghost use Rattle.compiler.specs.inner.Measured.{Measured, Written};
 ghost use Rattle.compiler.specs.inner.Walks.{SetOut, ReadsProgram};
 
-use base::Refusal;
-use lexeme::{Found, fixed};
+use base::{Refusal, Refused};
+use lexeme::fixed;
 use limits::Limits;
-use tables::Answer;
+use tables::Counts;
 use walk::Read;
 
 // DO, one Command, the end; the Command's code begins at a place.
-fn program(text: &[u8], names: &mut [usize], table: &mut [i32], code: usize) -> Read
+fn program(
+    text: &[u8],
+    names: &mut [usize],
+    table: &mut [i32],
+    code: usize,
+) -> Result<Read, Refused>
     requires { SetOut text.now names.old code }
     ensures { ReadsProgram Limits.NESTING text.now names.old table.old code result names.new table.new }
 {
-    let a = walk::advance(text, walk::start(code), 0);
-    let Read::Done(w, _) = a else {
-        return a;
-    };
-    let b = walk::expect(text, w, fixed::DO, 0);
-    let Read::Done(x, _) = b else {
-        return b;
-    };
-    let r = command::command(Limits::NESTING, text, names, table, x);
-    let Read::Done(y, _) = r else {
-        return r;
-    };
-    if walk::fixed_ahead(y) != fixed::END {
-        let l = y.next;
-        return Read::Refused(Refusal::NoProgram, l.place);
+    let w = walk::advance(text, walk::start(code))?;
+    let x = walk::expect(text, w, fixed::DO)?;
+    let r = command::command(Limits::NESTING, text, names, table, x)?;
+    if walk::fixed_ahead(r.walk) != fixed::END {
+        return Err(Refused {
+            why: Refusal::NoProgram,
+            place: r.walk.next.place,
+        });
     }
-    r
+    Ok(r)
 }
 
 // Numbers that a text's scope takes.
 const NAMES: usize = names::COUNTS + Limits::DECLARATIONS * names::ENTRY;
 
 // What the sentences decide. Nothing is written: the table holds no pair.
-fn measured(text: &[u8], names: &mut [usize; NAMES]) -> Answer
+fn measured(text: &[u8], names: &mut [usize; NAMES]) -> Result<Counts, Refused>
     requires { length text.now ≤ Limits.TEXT }
     ensures { Measured Limits.NESTING Limits.DECLARATIONS Limits.INSTRUCTIONS text.now result }
 {
     scopes::start(names);
     let mut none = [0i32; 1];
-    let r = program(text, names, &mut none, 0);
-    match r {
-        Read::Refused(why, place) => Answer::Refused(why, place),
-        Read::Done(w, g) => {
-            let s = scopes::counts(names);
-            let fault = w.fault;
-            tables::settled(s.cells, w.code, s.cells + g.need, fault)
-        }
-    }
+    let r = program(text, names, &mut none, 0)?;
+    let cells = scopes::counts(names).cells;
+    tables::settled(cells, r.walk.code, cells + r.need, r.walk.fault)
 }
 
 // A text's answer, whatever table there is, over a lent list.
-fn judged(text: &[u8], names: &mut [usize; NAMES]) -> Answer
+fn judged(text: &[u8], names: &mut [usize; NAMES]) -> Result<Counts, Refused>
     ensures { WithAnswer (Judged the_limits text.entry.now) (λ a. result ≡ answered a) }
 {
     if scan::too_long(text) {
-        return Answer::Refused(Refusal::TooLong, 0);
+        return Err(Refused {
+            why: Refusal::TooLong,
+            place: 0,
+        });
     }
-    let found = scan::scan(text);
-    match found {
-        Found::Refused(why, place) => Answer::Refused(why, place),
-        Found::Is(_) => measured(text, names),
-    }
+    scan::scan(text)?;
+    measured(text, names)
 }
 
 // That, with a list of its own.
-pub fn judge(text: &[u8]) -> Answer
+pub fn judge(text: &[u8]) -> Result<Counts, Refused>
     ensures { WithAnswer (Judged the_limits text.entry.now) (λ a. result ≡ answered a) }
 {
     let mut names = [0usize; NAMES];
@@ -94,26 +86,24 @@ fn write(text: &[u8], names: &mut [usize; NAMES], table: &mut [i32], cells: usiz
 {
     scopes::start(names);
     tables::put_cells(table, cells);
-    let r = program(text, names, table, cells);
-    let Read::Done(w, _) = r else {
-        return;
-    };
-    tables::put_halt(table, w.code);
+    if let Ok(r) = program(text, names, table, cells) {
+        tables::put_halt(table, r.walk.code);
+    }
 }
 
 // Judged; then the table's room; then written. One list serves both passes: a second would be 8 KB more of native stack.
-pub fn compile(text: &[u8], table: &mut [i32]) -> Answer
+pub fn compile(text: &[u8], table: &mut [i32]) -> Result<Counts, Refused>
     ensures { WithAnswer (Compiled the_limits text.entry.now (length table.old)) (Compiles (length table.old) result table.new) }
 {
     base::clear(table);
     let mut names = [0usize; NAMES];
-    let a = judged(text, &mut names);
-    let Answer::Accepted(counts) = a else {
-        return a;
-    };
+    let counts = judged(text, &mut names)?;
     if table.len() / 2 < counts.instructions {
-        return Answer::Refused(Refusal::TooMuchCode, 0);
+        return Err(Refused {
+            why: Refusal::TooMuchCode,
+            place: 0,
+        });
     }
     write(text, &mut names, table, counts.cells);
-    a
+    Ok(counts)
 }

@@ -6,27 +6,32 @@ ghost use Rattle.compiler.specs.inner.Steps.{one_instruction, cell_of, noted_wal
 
 use crate::walk;
 use crate::walk::Walk;
-use base::Refusal;
+use base::{Refusal, Refused};
 use lexeme::Lexeme;
-use names::Cell;
 
 // The walk after a use of the name l.
-pub fn noted(w: Walk, c: Cell, l: Lexeme) -> Walk
+pub fn noted(w: Walk, c: Option<usize>, l: Lexeme) -> Walk
     ensures { result ≡ noted_walk c w l.place }
 {
     match c {
-        Cell::At(_) => w,
-        Cell::Nowhere => walk::faulted(w, Refusal::Undeclared, l.place),
+        Some(_) => w,
+        None => walk::faulted(
+            w,
+            Refused {
+                why: Refusal::Undeclared,
+                place: l.place,
+            },
+        ),
     }
 }
 
 // A cell as an operand.
-pub fn operand(c: Cell) -> i32
+pub fn operand(c: Option<usize>) -> i32
     ensures { result ≡ pos (cell_number c) }
 {
     match c {
-        Cell::At(k) => tables::operand(k),
-        Cell::Nowhere => 0,
+        Some(k) => tables::operand(k),
+        None => 0,
     }
 }
 
@@ -35,9 +40,8 @@ pub fn used(text: &[u8], names: &[usize], table: &mut [i32], w: Walk, operation:
     requires { w.code < 10000000 }
     ensures { (result ≡ one_instruction (noted_walk (cell_of text.now names.now w.next) w w.next.place)) × (table.new ≡ put table.old w.code (operation ∷ pos (cell_number (cell_of text.now names.now w.next)) ∷ [])) }
 {
-    let l = w.next;
-    let c = scopes::look_up(text, names, l.place, l.end);
-    walk::emitted(table, noted(w, c, l), operation, operand(c))
+    let c = scopes::look_up(text, names, w.next.place, w.next.end);
+    walk::emitted(table, noted(w, c, w.next), operation, operand(c))
 }
 
 // The name ahead declared, or refusal 7.
@@ -45,9 +49,14 @@ pub fn declared(names: &mut [usize], w: Walk) -> Walk
     ensures value { result ≡ declared_walk names.old w }
     ensures names_after { names.new ≡ declared_in names.old w.next.place w.next.end }
 {
-    let l = w.next;
-    if scopes::declare(names, l.place, l.end) {
+    if scopes::declare(names, w.next.place, w.next.end) {
         return w;
     }
-    walk::faulted(w, Refusal::TooManyDeclared, l.place)
+    walk::faulted(
+        w,
+        Refused {
+            why: Refusal::TooManyDeclared,
+            place: w.next.place,
+        },
+    )
 }

@@ -1,12 +1,11 @@
 // How far a reading has come, and what it writes.
-ghost use Rattle.std.specs.Prelude.{◌≡◌, [], ◌∷◌, ◌+◌, ◌≤◌, ◌<◌, max, length};
+ghost use Rattle.std.specs.Prelude.{◌≡◌, [], ◌∷◌, ◌+◌, ◌≤◌, ◌<◌, length};
 ghost use Rattle.lexeme.specs.inner.Coded.{fixed_number};
 ghost use Rattle.tables.specs.inner.Tables.{put};
-ghost use Rattle.compiler.specs.inner.Steps.{start_at, one_instruction, faulted_walk, Fits, put_after, followed_by, passed_on, Advances, Expects};
+ghost use Rattle.compiler.specs.inner.Steps.{start_at, one_instruction, faulted_walk, followed_by, Advances, Expects};
 
-use base::Refusal;
-use lexeme::{Found, Kind, Lexeme, fixed};
-use tables::NameFault;
+use base::{Refusal, Refused};
+use lexeme::{Kind, Lexeme, fixed};
 
 // What is threaded through a reading.
 #[derive(Clone, Copy)]
@@ -15,35 +14,28 @@ pub struct Walk {
     pub next: Lexeme,
     // The place of the next instruction.
     pub code: usize,
-    pub fault: NameFault,
+    // The leftmost refusal of a name so far.
+    pub fault: Option<Refused>,
 }
 
-// What a construct gives.
+// What was read of a construct: the walk after it, and its stack need.
 #[derive(Clone, Copy)]
-pub struct Gives {
-    // Its stack need.
+pub struct Read {
+    pub walk: Walk,
     pub need: usize,
-}
-
-#[derive(Clone, Copy)]
-pub enum Read {
-    Done(Walk, Gives),
-    Refused(Refusal, usize),
 }
 
 // ---- instructions
 
 // The walk with a place for one instruction more.
+#[tactic(auto, unfolding(crate::specs::inner::Steps::one_instruction))]
 pub fn skipped(w: Walk) -> Walk
     requires { w.code < 10000000 }
     ensures { result ≡ one_instruction w }
 {
-    let next = w.next;
-    let fault = w.fault;
     Walk {
-        next: next,
         code: w.code + 1,
-        fault: fault,
+        ..w
     }
 }
 
@@ -56,44 +48,32 @@ pub fn emitted(table: &mut [i32], w: Walk, operation: i32, operand: i32) -> Walk
     skipped(w)
 }
 
-// What was read, with one instruction more. A refusal stays.
+// What was read, with one instruction more.
 pub fn followed(table: &mut [i32], r: Read, operation: i32, operand: i32) -> Read
-    requires { Fits r }
-    ensures { (result ≡ followed_by r) × (table.new ≡ put_after table.old r (operation ∷ operand ∷ [])) }
+    requires { r.walk.code < 10000000 }
+    ensures { (result ≡ followed_by r) × (table.new ≡ put table.old r.walk.code (operation ∷ operand ∷ [])) }
 {
-    let Read::Done(w, g) = r else {
-        return r;
-    };
-    Read::Done(emitted(table, w, operation, operand), g)
+    Read {
+        walk: emitted(table, r.walk, operation, operand),
+        need: r.need,
+    }
 }
 
 // The walk with a name's refusal, unless it had one.
-pub fn faulted(w: Walk, why: Refusal, place: usize) -> Walk
-    ensures { result ≡ faulted_walk w why place }
+#[tactic(auto, unfolding(crate::specs::inner::Steps::faulted_walk, crate::specs::inner::Steps::first_fault))]
+pub fn faulted(w: Walk, refused: Refused) -> Walk
+    ensures { result ≡ faulted_walk w refused }
 {
-    let fault = w.fault;
-    if let NameFault::Is(_, _) = fault {
-        return w;
-    }
-    let next = w.next;
     Walk {
-        next: next,
-        code: w.code,
-        fault: NameFault::Is(why, place),
+        fault: w.fault.or(Some(refused)),
+        ..w
     }
-}
-
-// ---- what constructs give
-
-pub fn larger(a: usize, b: usize) -> usize
-    ensures { result ≡ max a b }
-{
-    if a < b { b } else { a }
 }
 
 // ---- the lexeme ahead
 
 // Before a text, whose code begins at a place.
+#[tactic(auto, unfolding(lexeme::specs::inner::Coded::code_of))]
 pub fn start(code: usize) -> Walk
     ensures { result ≡ start_at code }
 {
@@ -104,7 +84,7 @@ pub fn start(code: usize) -> Walk
             end: 0,
         },
         code: code,
-        fault: NameFault::Nothing,
+        fault: None,
     }
 }
 
@@ -112,50 +92,28 @@ pub fn start(code: usize) -> Walk
 pub fn fixed_ahead(w: Walk) -> u8
     ensures { result ≡ fixed_number w.next.kind }
 {
-    let l = w.next;
-    let kind = l.kind;
-    lexeme::fixed_of(kind)
+    lexeme::fixed_of(w.next.kind)
 }
 
-// The refusal of the reader of lexemes, passed on.
-fn refused(found: Found) -> Read
-    ensures { result ≡ passed_on found }
-{
-    match found {
-        Found::Is(l) => Read::Refused(Refusal::NoLexeme, l.place),
-        Found::Refused(why, p) => Read::Refused(why, p),
-    }
-}
-
-// Past the lexeme ahead, which ends a construct of this need.
-pub fn advance(text: &[u8], w: Walk, need: usize) -> Read
+// Past the lexeme ahead, if a lexeme follows it.
+pub fn advance(text: &[u8], w: Walk) -> Result<Walk, Refused>
     requires { w.next.end ≤ length text.now }
-    ensures { Advances text.now w need result }
+    ensures { Advances text.now w result }
 {
-    let l = w.next;
-    let found = lexer::next(text, l.end);
-    let Found::Is(m) = found else {
-        return refused(found);
-    };
-    let fault = w.fault;
-    Read::Done(
-        Walk {
-            next: m,
-            code: w.code,
-            fault: fault,
-        },
-        Gives { need: need },
-    )
+    let next = lexer::next(text, w.next.end)?;
+    Ok(Walk { next, ..w })
 }
 
-// One fixed lexeme, and no other, which ends a construct of this need.
-pub fn expect(text: &[u8], w: Walk, fixed: u8, need: usize) -> Read
+// Past one fixed lexeme, and no other.
+pub fn expect(text: &[u8], w: Walk, fixed: u8) -> Result<Walk, Refused>
     requires { w.next.end ≤ length text.now }
-    ensures { Expects text.now w fixed need result }
+    ensures { Expects text.now w fixed result }
 {
     if fixed_ahead(w) == fixed {
-        return advance(text, w, need);
+        return advance(text, w);
     }
-    let l = w.next;
-    Read::Refused(Refusal::NoProgram, l.place)
+    Err(Refused {
+        why: Refusal::NoProgram,
+        place: w.next.place,
+    })
 }

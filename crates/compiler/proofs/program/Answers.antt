@@ -2,34 +2,39 @@
 use Rattle.lexeme.specs.inner.Coded.{code_of}
 use native.Mathlib.Omega.{arith}
 use mathlib.Core.Path.{sym, ◌∙◌}
-use Rattle.compiler.proofs.Programs.{begun, not_lexed, first_within, not_begun, begun_ready, command_refused, not_ended, whole_read}
+use Rattle.std.proofs.lemmas.Result.{err_from_is_err_and}
+use Rattle.compiler.proofs.Programs.{Begun, not_lexed, not_begun, begun_ready, command_refused, not_ended, whole_read}
 use Rattle.compiler.proofs.program.Goals as goal
 
-pub advance-a-requires : goal.advance-a-requires
-advance-a-requires c = rw c.start.ensures (omega arith)
+pub advance-requires : goal.advance-requires
+advance-requires c = rw c.start.ensures (omega arith)
 
-pub returns-in_default : goal.returns-in_default
-returns-in_default c = not_lexed c.requires (rw c.start.ensures at c.advance-a.ensures) _ _ c.in_default.is
+pub returns-in_err-w : goal.returns-in_err-w
+returns-in_err-w c = let p = err_from_is_err_and c.from_residual.result c.from_residual.ensures.1 in rw (p.1, p.2) (not_lexed _ c.args.code _ (rw c.start.ensures at c.in_err-w.ensures))
 
-pub expect-b-requires : goal.expect-b-requires
-expect-b-requires c = first_within c.requires (rw c.start.ensures at c.advance-a.ensures) c.in-Done.is
-
-pub returns-in_default-b : goal.returns-in_default-b
+pub returns-in_err-x : goal.returns-in_err-x
 unfolding code_of
-returns-in_default-b c = not_begun c.requires (rw c.start.ensures at c.advance-a.ensures) c.in-Done.is c.expect-b.ensures _ _ c.in_default-b.is
+returns-in_err-x c = let p = err_from_is_err_and c.from_residual-in_err-x.result c.from_residual-in_err-x.ensures.1 in rw (p.1, p.2) (not_begun {place = c.args.code} _ (rw c.start.ensures at c.in_ok-w.ensures) c.in_err-x.ensures)
 
-pub command-r-requires : goal.command-r-requires
+pub command-requires : goal.command-requires
 unfolding code_of
-command-r-requires c = begun_ready (begun c.requires (rw c.start.ensures at c.advance-a.ensures) c.in-Done.is c.expect-b.ensures c.in-Done-b.is) _ (omega arith)
+command-requires c = let b : Begun c.args.text.now c.args.names.now c.args.code c.in_ok-x.x = record { set_out = c.requires; start = c.in_ok-w.w; first = rw c.start.ensures at c.in_ok-w.ensures; its_DO = c.in_ok-x.ensures } in begun_ready b _ (omega arith)
 
-pub returns-in_default-r : goal.returns-in_default-r
+pub returns-in_err-r : goal.returns-in_err-r
 unfolding code_of
-returns-in_default-r c = command_refused (begun c.requires (rw c.start.ensures at c.advance-a.ensures) c.in-Done.is c.expect-b.ensures c.in-Done-b.is) _ _ _ _ c.command-r.ensures c.in_default-r.is
+returns-in_err-r c =
+    let b : Begun c.args.text.now c.args.names.now c.args.code c.in_ok-x.x = record { set_out = c.requires; start = c.in_ok-w.w; first = rw c.start.ensures at c.in_ok-w.ensures; its_DO = c.in_ok-x.ensures } in
+    let p = err_from_is_err_and c.from_residual-in_err-r.result c.from_residual-in_err-r.ensures.1 in
+    rw (p.1, p.2) (command_refused b _ c.in_err-r.ensures)
 
 pub returns-then-fixed_ahead-ne-END : goal.returns-then-fixed_ahead-ne-END
 unfolding code_of
-returns-then-fixed_ahead-ne-END c = not_ended (begun c.requires (rw c.start.ensures at c.advance-a.ensures) c.in-Done.is c.expect-b.ensures c.in-Done-b.is) _ _ _ _ c.command-r.ensures c.in-Done-r.is (λ h. c.if-fixed_ahead-ne-END.true (c.fixed_ahead.ensures ∙ h))
+returns-then-fixed_ahead-ne-END c =
+    let b : Begun c.args.text.now c.args.names.now c.args.code c.in_ok-x.x = record { set_out = c.requires; start = c.in_ok-w.w; first = rw c.start.ensures at c.in_ok-w.ensures; its_DO = c.in_ok-x.ensures } in
+    not_ended b _ c.in_ok-r.ensures (λ h. c.if-fixed_ahead-ne-END.true (c.fixed_ahead.ensures ∙ h))
 
 pub returns : goal.returns
 unfolding code_of
-returns c = whole_read (begun c.requires (rw c.start.ensures at c.advance-a.ensures) c.in-Done.is c.expect-b.ensures c.in-Done-b.is) _ _ _ _ c.command-r.ensures c.in-Done-r.is (sym c.fixed_ahead.ensures ∙ c.if-fixed_ahead-ne-END.false)
+returns c =
+    let b : Begun c.args.text.now c.args.names.now c.args.code c.in_ok-x.x = record { set_out = c.requires; start = c.in_ok-w.w; first = rw c.start.ensures at c.in_ok-w.ensures; its_DO = c.in_ok-x.ensures } in
+    whole_read b _ c.in_ok-r.ensures (sym c.fixed_ahead.ensures ∙ c.if-fixed_ahead-ne-END.false)

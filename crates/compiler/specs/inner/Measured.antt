@@ -1,5 +1,5 @@
 -- What the pass that measures and the pass that writes promise, by the reader of states.
-use Rattle.std.specs.Prelude.{◌≡◌, List, cond, ℕ, ◌≤◌, ltb, ℤ, length}
+use Rattle.std.specs.Prelude.{◌≡◌, List, cond, ℕ, ◌≤◌, ltb, ℤ, length, Result}
 use Rattle.base.specs.declared.Refusal.TheVariants.{TooMuchCode}
 use Rattle.base.specs.Answers as A
 use Rattle.base.specs.Answers.{given, refused, pass}
@@ -8,7 +8,8 @@ use Rattle.sentence.specs.Sentences.{Sen, command}
 use Rattle.sentence.proofs.Reader.{read}
 use Rattle.names.specs.Names.{Known, resolved}
 use Rattle.meaning.specs.Layout.{program_code}
-use Rattle.tables.specs.declared.Answer.{Answer}
+use Rattle.base.specs.declared.Refused.{Refused}
+use Rattle.tables.specs.declared.Counts.{Counts}
 use Rattle.tables.specs.inner.Tables.{emit}
 use Rattle.compiler.specs.Answers.{answered}
 use Rattle.compiler.specs.Compiled.{Accepted, code_of_text, over_cells}
@@ -24,7 +25,7 @@ measured nesting declarations instructions ls =
     pass (over_cells declarations m) (at_most instructions)
 
 -- that, whatever the sizes under which the text has these lexemes, if its literals are numbers
-unfoldable pub Measured : ℕ → ℕ → ℕ → List ℕ → Answer → Type 0
+unfoldable pub Measured : ℕ → ℕ → ℕ → List ℕ → Result Counts Refused → Type 0
 Measured nesting declarations instructions text r =
     (sizes : Sizes) (ls : List Placed) → sizes.literal ≤ 2147483647 → lexemes sizes text ≡ given ls → r ≡ answered (measured nesting declarations instructions ls)
 

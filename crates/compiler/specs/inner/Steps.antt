@@ -1,8 +1,8 @@
 -- What the code's small steps come to: how a walk moves over lexemes, instructions and names.
-use Rattle.std.specs.Prelude.{◌≡◌, List, [], Bool, true, false, cond, ◌||◌, ◌⊎◌, ℕ, ◌+◌, ◌≤◌, ◌<◌, max, ltb, eqb, ℤ, pos}
+use Rattle.std.specs.Prelude.{◌≡◌, List, Bool, true, false, cond, ◌||◌, ◌⊎◌, ℕ, ◌+◌, ◌≤◌, ◌<◌, max, ltb, eqb, ℤ, pos, [], Option, Some, None, Result, Ok, Err}
 use Prim.Native.Char.{code}
-use Rattle.base.specs.declared.Refusal.{Refusal}
-use Rattle.base.specs.declared.Refusal.TheVariants.{NoLexeme, NoProgram, Undeclared, TooManyDeclared}
+use Rattle.base.specs.declared.Refusal.TheVariants.{NoProgram, Undeclared, TooManyDeclared}
+use Rattle.base.specs.declared.Refused.{Refused}
 use Rattle.base.specs.inner.Parts.{part}
 use Rattle.lexeme.specs.Lexemes as L
 use Rattle.lexeme.specs.Lexemes.{DO, IF, THEN, WHILE, open_brace, end, next}
@@ -10,25 +10,17 @@ use Rattle.lexeme.specs.inner.Coded.{code_of, coded, fixed_number, Stands}
 use Rattle.lexeme.specs.declared.Kind.{Kind}
 use Rattle.lexeme.specs.declared.Kind.TheVariants as kind
 use Rattle.lexeme.specs.declared.Lexeme.{Lexeme}
-use Rattle.lexeme.specs.declared.Found.{Found}
-use Rattle.lexeme.specs.declared.Found.TheVariants as reply
-use Rattle.names.specs.declared.Cell.{Cell}
-use Rattle.names.specs.declared.Cell.TheVariants.{At, Nowhere}
 use Rattle.names.specs.inner.Held.{counts, room, visible_in, latest}
 use Rattle.numbers.specs.Numbers.{plus, minus, times, divide, equals, smaller, greater}
 use Rattle.instruction.specs.Instructions.{jump, print_str, print_str_ln, number, encode, opcode}
 use Rattle.compiler.specs.declared.walk.Walk.{Walk}
-use Rattle.compiler.specs.declared.walk.Gives.{Gives}
-use Rattle.tables.specs.declared.NameFault.{NameFault}
-use Rattle.tables.specs.declared.NameFault.TheVariants.{Nothing, Is}
 use Rattle.compiler.specs.declared.walk.Read.{Read}
-use Rattle.compiler.specs.declared.walk.Read.TheVariants.{Done, Refused}
 use Rattle.tables.specs.inner.Tables.{put, operand_of}
 
 -- ---- the walk
 
 abbrev pub start_at : ℕ → Walk
-start_at place = record { next = record { kind = kind.Fixed (code_of end); place = 0; end = 0 }; code = place; fault = Nothing }
+start_at place = record { next = record { kind = kind.Fixed (code_of end); place = 0; end = 0 }; code = place; fault = None }
 
 unfoldable pub moved_to : Walk → Lexeme → Walk
 moved_to w l = record { next = l; code = w.code; fault = w.fault }
@@ -37,23 +29,22 @@ unfoldable pub one_instruction : Walk → Walk
 one_instruction w = record { next = w.next; code = w.code + 1; fault = w.fault }
 
 -- the leftmost refusal stays
-unfoldable pub first_fault : NameFault → Refusal → ℕ → NameFault
-first_fault Nothing why p = Is why p
-first_fault (Is why' q) why p = Is why' q
+unfoldable pub first_fault : Option Refused → Refused → Option Refused
+first_fault None e = Some e
+first_fault (Some f) e = Some f
 
-unfoldable pub faulted_walk : Walk → Refusal → ℕ → Walk
-faulted_walk w why p = record { next = w.next; code = w.code; fault = first_fault w.fault why p }
+unfoldable pub faulted_walk : Walk → Refused → Walk
+faulted_walk w e = record { next = w.next; code = w.code; fault = first_fault w.fault e }
 
 -- ---- the lexeme ahead
 
--- a refusal of the reader of lexemes
-unfoldable pub passed_on : Found → Read
-passed_on (reply.Is l) = Refused NoLexeme l.place
-passed_on (reply.Refused why p) = Refused why p
+-- what follows the lexeme l is no lexeme, and is refused so
+abbrev pub Lost : List ℕ → Lexeme → Refused → Type 0
+Lost text l e = Err e ≡ coded (next text l.end)
 
 -- m is the lexeme after l
 pub record Follows (text : List ℕ) (l m : Lexeme) : Type 0 where
-  pub read : reply.Is m ≡ coded (next text l.end)
+  pub read : Ok m ≡ coded (next text l.end)
   pub later : l.end ≤ m.place
   pub stands : Stands text m
 
@@ -62,13 +53,19 @@ pub record Past (text : List ℕ) (w v : Walk) : Type 0 where
   pub follows : Follows text w.next v.next
   pub moved : v ≡ moved_to w v.next
 
-unfoldable pub Advances : List ℕ → Walk → ℕ → Read → Type 0
-Advances text w need (Done v g) = Past text w v × (g ≡ record { need = need })
-Advances text w need (Refused why p) = reply.Refused why p ≡ coded (next text w.next.end)
+abbrev pub Advances : List ℕ → Walk → Result Walk Refused → Type 0
+Advances text w (Ok v) = Past text w v
+Advances text w (Err e) = Lost text w.next e
 
--- the lexeme ahead has this number as a fixed one, and is passed; or it has not, and no Program goes on so
-unfoldable pub Expects : List ℕ → Walk → ℕ → ℕ → Read → Type 0
-Expects text w f need r = ((fixed_number w.next.kind ≡ f) × Advances text w need r) ⊎ ((fixed_number w.next.kind ≡ f → ⊥) × (r ≡ Refused NoProgram w.next.place))
+-- the lexeme ahead of w is the fixed one of this number, and the walk v is past it
+pub record Crossed (text : List ℕ) (w : Walk) (f : ℕ) (v : Walk) : Type 0 where
+  pub number : fixed_number w.next.kind ≡ f
+  pub past : Past text w v
+
+-- the lexeme ahead has this number as a fixed one, and is passed; or what follows it is no lexeme; or it has not this number, and no Program goes on so
+abbrev pub Expects : List ℕ → Walk → ℕ → Result Walk Refused → Type 0
+Expects text w f (Ok v) = Crossed text w f v
+Expects text w f (Err e) = ((fixed_number w.next.kind ≡ f) × Lost text w.next e) ⊎ ((fixed_number w.next.kind ≡ f → ⊥) × (e ≡ record { why = NoProgram; place = w.next.place }))
 
 -- ---- a lexeme of this kind is no literal and no name
 
@@ -110,40 +107,34 @@ operation_number b =
     (cond (eqb b (code "<")) (number smaller)
     (number greater))))))
 
--- after both sides: one instruction more, and the need of both; a refusal stays
-unfoldable pub joined_walk : Gives → Read → Read
-joined_walk left (Done w right) = Done (one_instruction w) (record { need = max left.need (1 + right.need) })
-joined_walk left (Refused why p) = Refused why p
-
 -- ---- an instruction after what was read
 
 -- there is room in the code's numbers
-unfoldable pub Fits : Read → Type 0
-Fits (Done w g) = (w.code < 10000000) × (g.need < 10000000)
-Fits (Refused why p) = Unit {0}
+pub record Fits (r : Read) : Type 0 where
+  pub code : r.walk.code < 10000000
+  pub need : r.need < 10000000
 
-unfoldable pub followed_by : Read → Read
-followed_by (Done w g) = Done (one_instruction w) g
-followed_by (Refused why p) = Refused why p
+abbrev pub followed_by : Read → Read
+followed_by r = record { walk = one_instruction r.walk; need = r.need }
 
-unfoldable pub put_after : List ℤ → Read → List ℤ → List ℤ
-put_after table (Done w g) numbers = put table w.code numbers
-put_after table (Refused why p) numbers = table
+-- after both sides, of which the left one has this need
+abbrev pub joined_walk : ℕ → Read → Read
+joined_walk left r = record { walk = one_instruction r.walk; need = max left (1 + r.need) }
 
 -- ---- names
 
 -- the cell of the name l
-unfoldable pub cell_of : List ℕ → List ℕ → Lexeme → Cell
+unfoldable pub cell_of : List ℕ → List ℕ → Lexeme → Option ℕ
 cell_of text names l = latest (visible_in text names (counts names).visible) (part text l.place l.end)
 
-unfoldable pub noted_walk : Cell → Walk → ℕ → Walk
-noted_walk (At k) w p = w
-noted_walk Nowhere w p = faulted_walk w Undeclared p
+unfoldable pub noted_walk : Option ℕ → Walk → ℕ → Walk
+noted_walk (Some k) w p = w
+noted_walk None w p = faulted_walk w (record { why = Undeclared; place = p })
 
-unfoldable pub cell_number : Cell → ℕ
-cell_number (At k) = operand_of k
-cell_number Nowhere = 0
+unfoldable pub cell_number : Option ℕ → ℕ
+cell_number (Some k) = operand_of k
+cell_number None = 0
 
 -- the name ahead was declared, or there were too many
 unfoldable pub declared_walk : List ℕ → Walk → Walk
-declared_walk names w = cond (ltb (counts names).declared (room names)) w (faulted_walk w TooManyDeclared w.next.place)
+declared_walk names w = cond (ltb (counts names).declared (room names)) w (faulted_walk w (record { why = TooManyDeclared; place = w.next.place }))

@@ -1,26 +1,22 @@
 -- What the readers promise: how far a construct's lexemes lead the reader of sentences, and that its names were resolved and its code written.
-use Rattle.std.specs.Prelude.{◌≡◌, List, [], ◌∷◌, Bool, true, false, cond, ℕ, suc, ◌+◌, ◌*◌, ◌≤◌, ◌<◌, ltb, eqb, ℤ, length}
+use Rattle.std.specs.Prelude.{◌≡◌, List, [], ◌∷◌, Bool, true, false, cond, ℕ, suc, ◌+◌, ◌*◌, ◌≤◌, ◌<◌, ltb, eqb, ℤ, length, Option, Some, None, Result, Ok, Err}
 use Rattle.base.specs.declared.Refusal.{Refusal}
 use Rattle.base.specs.declared.Refusal.TheVariants.{NoProgram, TooDeep}
+use Rattle.base.specs.declared.Refused.{Refused}
 use Rattle.base.specs.inner.Parts.{part}
 use Rattle.base.specs.Answers.{Answer, given, refused, pass}
 use Rattle.lexeme.specs.Lexemes as L
 use Rattle.lexeme.specs.Lexemes.{Name, Placed, WHILE, open_brace, next}
 use Rattle.lexeme.specs.inner.Coded.{code_of, coded, Stands, Ahead}
 use Rattle.lexeme.specs.declared.Lexeme.{Lexeme}
-use Rattle.lexeme.specs.declared.Found.TheVariants as reply
 use Rattle.sentence.specs.Sentences.{Kind, Sen, factor, term, expression, condition, command, commands}
-use Rattle.sentence.proofs.Reader.{Around, depth, State, in_first, in_left, in_print, in_while, in_when, in_block, want_factor, want_expression, want_condition, want_command, want_line, want_string, want_declared, want_read, want_becomes, step, verdict, goes_on, is_whole, begins_none, whole, read_from, read, got_factor, whole_term, after_expression, whole_expression, after_condition, after_command}
+use Rattle.sentence.proofs.Reader.{Around, depth, State, in_first, in_left, in_print, in_while, in_when, in_block, want_factor, want_expression, want_condition, want_command, want_line, want_string, want_declared, want_read, want_becomes, step, verdict, goes_on, is_whole, begins_none, whole, read_from, read, got_factor, after_term, whole_term, after_expression, whole_expression, after_condition, after_command, at_command_or_brace}
 use Rattle.names.specs.Names.{Scope, Known, resolve}
 use Rattle.names.specs.inner.Held.{counts, no_counts, room, scope_in, opened_in, closed_in, Sound, Kept}
 use Rattle.meaning.specs.Layout as layout
 use Rattle.meaning.proofs.Sizes.{size}
 use Rattle.compiler.specs.declared.walk.Walk.{Walk}
-use Rattle.compiler.specs.declared.walk.Gives.{Gives}
-use Rattle.tables.specs.declared.NameFault.{NameFault}
-use Rattle.tables.specs.declared.NameFault.TheVariants.{Nothing, Is}
 use Rattle.compiler.specs.declared.walk.Read.{Read}
-use Rattle.compiler.specs.declared.walk.Read.TheVariants.{Done, Refused}
 use Rattle.compiler.specs.inner.Steps.{start_at, Past}
 use Rattle.tables.specs.inner.Tables.{emit}
 
@@ -35,21 +31,27 @@ read_via limit f (l ∷ ls) = elim (verdict (f l.what)) [
   | begins_none ↦ refused NoProgram l.place
 ]
 
--- from the lexeme l on, with so many nestings still allowed, the state `start` comes to the lexeme m, which leads to `stop`'s
-pub record Passes (text : List ℕ) (l m : Lexeme) (allow : ℕ) (k : Kind) (start : Around k → State) (stop : Around k → L.Lexeme → State) : Type 0 where
+-- how a construct is read: from which state, and what comes after it
+pub record Way (k : Kind) (X : Type 0) : Type 0 where
+  pub start : Around k → State
+  pub stop : X → Around k → L.Lexeme → State
+
+-- from the lexeme l on, with so many nestings still allowed, x is read up to the lexeme m
+pub record Passes {k : Kind} {X : Type 0} (way : Way k X) (text : List ℕ) (l m : Lexeme) (allow : ℕ) (x : X) : Type 0 where
   pub later : l.place < m.place
   pub stands : Stands text m
-  pub same : (ls : List Placed) → Ahead text l ls → (rest : List Placed) × Ahead text m rest × ((a : Around k) → read_from (depth a + allow) (start a) ls ≡ read_via (depth a + allow) (stop a) rest)
+  pub same : (ls : List Placed) → Ahead text l ls → (rest : List Placed) × Ahead text m rest × ((a : Around k) → read_from (depth a + allow) (way.start a) ls ≡ read_via (depth a + allow) (way.stop x a) rest)
 
-unfoldable pub Refuses : List ℕ → Lexeme → ℕ → (k : Kind) → (Around k → State) → Refusal → ℕ → Type 0
-Refuses text l allow k start why p = (ls : List Placed) → Ahead text l ls → (a : Around k) → read_from (depth a + allow) (start a) ls ≡ refused why p
+-- what begins there in such a state is refused
+pub record Refuses {k : Kind} (start : Around k → State) (text : List ℕ) (l : Lexeme) (allow : ℕ) (why : Refusal) (p : ℕ) : Type 0 where
+  pub same : (ls : List Placed) → Ahead text l ls → (a : Around k) → read_from (depth a + allow) (start a) ls ≡ refused why p
 
 -- ---- naming and writing
 
 -- the scope reached, or the leftmost refusal of 6 and 7
-unfoldable pub standing : NameFault → Scope → Answer Scope
-standing Nothing s = given s
-standing (Is why p) s = refused why p
+unfoldable pub standing : Option Refused → Scope → Answer Scope
+standing None s = given s
+standing (Some e) s = refused e.why e.place
 
 unfoldable pub stand : List ℕ → List ℕ → Walk → Answer Scope
 stand text names w = standing w.fault (scope_in text names)
@@ -61,9 +63,9 @@ unfoldable pub scope_of : {A : Type 0} → Known A → Answer Scope
 scope_of r = given r.scope
 
 -- the sentence's code was written from the walk's place on, and its need is known
-pub record Laid {k : Kind} (table table' : List ℤ) (w v : Walk) (g : Gives) (y : Sen ℕ k) : Type 0 where
+pub record Laid {k : Kind} (table table' : List ℤ) (w v : Walk) (n : ℕ) (y : Sen ℕ k) : Type 0 where
   pub code : v.code ≡ w.code + size y
-  pub need : g.need ≡ layout.need y
+  pub need : n ≡ layout.need y
   pub numbers : table' ≡ emit table w.code (layout.code w.code y)
 
 -- counts stay small: fewer than four instructions, and one value at most, for each byte read
@@ -75,15 +77,15 @@ spare condition = 2
 spare command = 1
 spare commands = 1
 
-pub record Small (k : Kind) (w v : Walk) (g : Gives) : Type 0 where
+pub record Small (k : Kind) (w v : Walk) (n : ℕ) : Type 0 where
   pub code : v.code + 4 * w.next.place + spare k ≤ w.code + 4 * v.next.place
-  pub need : g.need + w.next.place ≤ v.next.place
+  pub need : n + w.next.place ≤ v.next.place
 
 -- the names of the sentence x were resolved, and its code written, by the walk from w to v
-pub record Lays {k : Kind} (text names : List ℕ) (table : List ℤ) (w : Walk) (x : Sen Name k) (names' : List ℕ) (table' : List ℤ) (v : Walk) (g : Gives) : Type 0 where
+pub record Lays {k : Kind} (text names : List ℕ) (table : List ℤ) (w : Walk) (x : Sen Name k) (names' : List ℕ) (table' : List ℤ) (v : Walk) (n : ℕ) : Type 0 where
   pub naming : stand text names' v ≡ pass (named (room names) x (stand text names w)) scope_of
-  pub laying : (r : Known (Sen ℕ k)) → named (room names) x (stand text names w) ≡ given r → Laid table table' w v g r.what
-  pub small : Small k w v g
+  pub laying : (r : Known (Sen ℕ k)) → named (room names) x (stand text names w) ≡ given r → Laid table table' w v n r.what
+  pub small : Small k w v n
   pub sound : Sound names'
   pub kept : Kept names names'
 
@@ -101,60 +103,111 @@ pub record First (text names : List ℕ) (w : Walk) (allow : ℕ) (x : Walk) : T
   pub ready : Ready text names w allow
   pub past : Past text w x
 
--- a construct of the kind k was read, or refused
-unfoldable pub Reads : (k : Kind) → (Around k → State) → (Sen Name k → Around k → L.Lexeme → State) → List ℕ → List ℕ → List ℤ → Walk → ℕ → Read → List ℕ → List ℤ → Type 0
-Reads k start stop text names table w allow (Done v g) names' table' = (x : Sen Name k) × Passes text w.next v.next allow k start (stop x) × Lays text names table w x names' table' v g
-Reads k start stop text names table w allow (Refused why p) names' table' = Refuses text w.next allow k start why p
+-- a construct was read, named and written by the walk from w to v
+pub record Got {k j : Kind} (way : Way k (Sen Name j)) (text names : List ℕ) (table : List ℤ) (w : Walk) (allow : ℕ) (names' : List ℕ) (table' : List ℤ) (v : Walk) (n : ℕ) : Type 0 where
+  pub what : Sen Name j
+  pub passed : Passes way text w.next v.next allow what
+  pub laid : Lays text names table w what names' table' v n
 
 abbrev pub Reading : Type 1
-Reading = List ℕ → List ℕ → List ℤ → Walk → ℕ → Read → List ℕ → List ℤ → Type 0
+Reading = List ℕ → List ℕ → List ℤ → Walk → ℕ → Result Read Refused → List ℕ → List ℤ → Type 0
+
+-- it was, or it was refused
+abbrev pub Reads : {k : Kind} → Way k (Sen Name k) → Reading
+Reads way text names table w allow (Ok r) names' table' = Got way text names table w allow names' table' r.walk r.need
+Reads way text names table w allow (Err e) names' table' = Refuses way.start text w.next allow e.why e.place
+
+-- ---- the ways of the readers
+
+abbrev pub factor_way : Way factor (Sen Name factor)
+factor_way = record { start = want_factor; stop = λ f a. step (got_factor f a) }
 
 abbrev pub ReadsFactor : Reading
-ReadsFactor = Reads factor want_factor (λ f a. step (got_factor f a))
+ReadsFactor = Reads factor_way
+
+abbrev pub term_so_far : Way term (Sen Name term)
+term_so_far = record { start = λ a. want_factor (in_first a); stop = after_term }
+
+abbrev pub term_way : Way term (Sen Name term)
+term_way = record { start = λ a. want_factor (in_first a); stop = whole_term }
 
 abbrev pub ReadsTerm : Reading
-ReadsTerm = Reads term (λ a. want_factor (in_first a)) whole_term
+ReadsTerm = Reads term_way
 
--- an expression of one Term so far
+-- an expression of one Term so far, or of more
+abbrev pub first_term_way : Way expression (Sen Name expression)
+first_term_way = record { start = want_expression; stop = after_expression }
+
 abbrev pub ReadsFirstTerm : Reading
-ReadsFirstTerm = Reads expression want_expression after_expression
+ReadsFirstTerm = Reads first_term_way
+
+abbrev pub expression_way : Way expression (Sen Name expression)
+expression_way = record { start = want_expression; stop = whole_expression }
 
 abbrev pub ReadsExpression : Reading
-ReadsExpression = Reads expression want_expression whole_expression
+ReadsExpression = Reads expression_way
+
+abbrev pub condition_way : Way condition (Sen Name condition)
+condition_way = record { start = want_condition; stop = after_condition }
 
 abbrev pub ReadsCondition : Reading
-ReadsCondition = Reads condition want_condition after_condition
+ReadsCondition = Reads condition_way
 
 -- a condition that does not begin with NOT
+abbrev pub comparison_way : Way condition (Sen Name condition)
+comparison_way = record { start = λ a. want_expression (in_left a); stop = after_condition }
+
 abbrev pub ReadsComparison : Reading
-ReadsComparison = Reads condition (λ a. want_expression (in_left a)) after_condition
+ReadsComparison = Reads comparison_way
+
+-- a command, from a state on
+abbrev pub command_from : (Around command → State) → Way command (Sen Name command)
+command_from start = record { start = start; stop = after_command }
+
+abbrev pub command_way : Way command (Sen Name command)
+command_way = command_from want_command
 
 abbrev pub ReadsCommand : Reading
-ReadsCommand = Reads command want_command after_command
+ReadsCommand = Reads command_way
 
 -- after the first lexeme of a command
+abbrev pub print_way : Way command (Sen Name command)
+print_way = command_from (λ a. want_expression (in_print a))
+
 abbrev pub ReadsPrint : Reading
-ReadsPrint = Reads command (λ a. want_expression (in_print a)) after_command
+ReadsPrint = Reads print_way
 
 unfoldable pub want_quoted : Bool → Around command → State
 want_quoted true a = want_line a
 want_quoted false a = want_string a
 
+abbrev pub string_way : Bool → Way command (Sen Name command)
+string_way line = command_from (want_quoted line)
+
 abbrev pub ReadsString : Bool → Reading
-ReadsString line = Reads command (want_quoted line) after_command
+ReadsString line = Reads (string_way line)
+
+abbrev pub declare_way : Way command (Sen Name command)
+declare_way = command_from want_declared
 
 abbrev pub ReadsDeclare : Reading
-ReadsDeclare = Reads command want_declared after_command
+ReadsDeclare = Reads declare_way
+
+abbrev pub read_way : Way command (Sen Name command)
+read_way = command_from want_read
 
 abbrev pub ReadsRead : Reading
-ReadsRead = Reads command want_read after_command
+ReadsRead = Reads read_way
 
 -- the code's lexeme l as a name
 unfoldable pub name_of : List ℕ → Lexeme → Name
 name_of text l = record { spelled = part text l.place l.end; place = l.place }
 
+abbrev pub assign_way : Name → Way command (Sen Name command)
+assign_way x = command_from (want_becomes x)
+
 abbrev pub ReadsAssign : Lexeme → Reading
-ReadsAssign l = λ text. Reads command (want_becomes (name_of text l)) after_command text
+ReadsAssign l = λ text. Reads (assign_way (name_of text l)) text
 
 -- the body of an IF or a WHILE: a Command in a scope of its own
 abbrev pub ReadsBody : Reading
@@ -165,11 +218,21 @@ unfoldable pub want_guarded : Bool → Around command → State
 want_guarded true a = want_condition (in_while a)
 want_guarded false a = want_condition (in_when a)
 
+abbrev pub guarded_way : Bool → Way command (Sen Name command)
+guarded_way again = command_from (want_guarded again)
+
 abbrev pub ReadsGuarded : Bool → Reading
-ReadsGuarded again = λ text names table w allow. Reads command (want_guarded again) after_command text names table w (suc allow)
+ReadsGuarded again = λ text names table w allow. Reads (guarded_way again) text names table w (suc allow)
+
+abbrev pub block_way : Way command (Sen Name command)
+block_way = command_from (λ a. want_command (in_block a))
+
+-- the commands of a block, which may go on
+abbrev pub block_so_far : Way command (Sen Name commands)
+block_so_far = record { start = λ a. want_command (in_block a); stop = at_command_or_brace }
 
 abbrev pub ReadsBlock : Reading
-ReadsBlock = λ text names table w allow. Reads command (λ a. want_command (in_block a)) after_command text names table w (suc allow)
+ReadsBlock = λ text names table w allow. Reads block_way text names table w (suc allow)
 
 -- after IF, WHILE or `{`, by its number
 unfoldable pub want_nested : ℕ → Around command → State
@@ -185,16 +248,22 @@ pub record SetOut (text names : List ℕ) (from : ℕ) : Type 0 where
   pub none : counts names ≡ no_counts
 
 -- its counts are in the range of the code's numbers
-pub record Counted (cells : ℕ) (w : Walk) (g : Gives) : Type 0 where
+pub record Counted (cells : ℕ) (w : Walk) (n : ℕ) : Type 0 where
   pub few : cells ≤ 1000000
   pub code : w.code ≤ 10000000
-  pub need : g.need ≤ 1000000
+  pub need : n ≤ 1000000
 
 -- the lexemes of a text, as the readers come to them
 unfoldable pub FromStart : List ℕ → List Placed → Type 0
-FromStart text ls = (l : Lexeme) × (reply.Is l ≡ coded (next text 0)) × Ahead text l ls
+FromStart text ls = (l : Lexeme) × (Ok l ≡ coded (next text 0)) × Ahead text l ls
 
-unfoldable pub ReadsProgram : ℕ → List ℕ → List ℕ → List ℤ → ℕ → Read → List ℕ → List ℤ → Type 0
-ReadsProgram limit text names table code (Done v g) names' table' =
-    (m : Sen Name command) × ((ls : List Placed) → FromStart text ls → read limit ls ≡ given m) × Lays text names table (start_at code) m names' table' v g × (v.next.place ≤ length text)
-ReadsProgram limit text names table code (Refused why p) names' table' = (ls : List Placed) → FromStart text ls → read limit ls ≡ refused why p
+-- a whole Program was read, named and written by the walk to v
+pub record Ran (limit : ℕ) (text names : List ℕ) (table : List ℤ) (place : ℕ) (names' : List ℕ) (table' : List ℤ) (v : Walk) (n : ℕ) : Type 0 where
+  pub tree : Sen Name command
+  pub reads : (ls : List Placed) → FromStart text ls → read limit ls ≡ given tree
+  pub lays : Lays text names table (start_at place) tree names' table' v n
+  pub within : v.next.place ≤ length text
+
+abbrev pub ReadsProgram : ℕ → List ℕ → List ℕ → List ℤ → ℕ → Result Read Refused → List ℕ → List ℤ → Type 0
+ReadsProgram limit text names table place (Ok r) names' table' = Ran limit text names table place names' table' r.walk r.need
+ReadsProgram limit text names table place (Err e) names' table' = (ls : List Placed) → FromStart text ls → read limit ls ≡ refused e.why e.place

@@ -1,7 +1,7 @@
-use Prim.Native.Nat.{◌+◌, ◌*◌, ◌-◌}
+use Prim.Native.Nat.{suc, ◌+◌, ◌*◌, ◌-◌}
 use lib.ListN.{length}
-use Rattle.compiler.proofs.Bodies.{More}
-use Rattle.compiler.proofs.Replies.{read_to}
+use Rattle.names.specs.inner.Held.{opened_in}
+use Rattle.compiler.specs.inner.Walks.{Got, block_so_far}
 use Rattle.compiler.proofs.command.+block_body_command_guarded.Given as goal
 
 abbrev pub decreases-block : goal.decreases-block
@@ -16,8 +16,9 @@ decreases-command l = l.allow * 3
 abbrev pub decreases-guarded : goal.decreases-guarded
 decreases-guarded l = l.allow * 3 + 2
 
-abbrev pub invariant-block-loop-so_far : goal.invariant-block-loop-so_far
-invariant-block-loop-so_far l = More l.text l.allow l.initial.names l.initial.table l.initial.so_far l.names l.table l.so_far
+-- the commands so far, read from the first on
+abbrev pub invariant-block-loop-names : goal.invariant-block-loop-names
+invariant-block-loop-names l = Got block_so_far l.text (opened_in l.fn.names) l.fn.table l.fn.w (suc l.allow) l.names l.table l.so_far.walk l.so_far.need
 
-abbrev pub decreases-block-loop-so_far : goal.decreases-block-loop-so_far
-decreases-block-loop-so_far l = length l.text - read_to l.so_far
+abbrev pub decreases-block-loop-names : goal.decreases-block-loop-names
+decreases-block-loop-names l = length l.text - l.so_far.walk.next.place

@@ -6,18 +6,22 @@ use mir.Facts.{to_z-of_z}
 use lib.IntN.{pos}
 use Rattle.compiler.proofs.Stores.{count_fits}
 use Rattle.compiler.specs.inner.Steps.{one_instruction}
-use Rattle.compiler.specs.inner.Walks.{Reads}
-use Rattle.compiler.proofs.Bodies.{printed}
+use Rattle.compiler.specs.inner.Walks.{string_way}
+use Rattle.compiler.proofs.Bodies.{lost_ahead, printed}
 use Rattle.compiler.proofs.Commands.{no_quoted}
+use Rattle.compiler.proofs.Replies.{passed_on}
 use Rattle.compiler.proofs.command.print_string.Goals as goal
 
 pub returns-in_default : goal.returns-in_default
-unfolding Reads
 returns-in_default c = no_quoted c.requires.stands _ _ c.in_default.not-Str
 
 pub advance-requires : goal.advance-requires
 unfolding one_instruction
-advance-requires c = rw c.emitted.ensures.0 c.requires.stands.within
+advance-requires c = rw c.emitted-x.ensures.0 c.requires.stands.within
+
+pub returns-in_err-advance : goal.returns-in_err-advance
+unfolding one_instruction
+returns-in_err-advance c = passed_on (string_way _) _ _ _ _ _ _ _ _ c.from_residual.ensures.1 (lost_ahead c.requires.stands (rw c.emitted-x.ensures.0 at c.in_err-advance.ensures))
 
 pub returns : goal.returns
-returns c = rw (c.emitted.ensures.1, to_z-of_z (record { sfits = c.printing.type_inv }), c.printing.ensures, to_z-of_z {w = w32} {z = pos (c.args.w.next.place + 1)} (count_fits (omega (arith, c.requires.stands.order, c.requires.stands.within, c.requires.short)))) (printed c.requires _ _ c.in-Str.is _ (rw c.emitted.ensures.0 at c.advance.ensures))
+returns c = rw (c.emitted-x.ensures.1, to_z-of_z (record { sfits = c.printing.type_inv }), c.printing.ensures, to_z-of_z {w = w32} {z = pos (c.args.w.next.place + 1)} (count_fits (omega (arith, c.requires.stands.order, c.requires.stands.within, c.requires.short)))) (printed c.requires _ c.in-Str.is (rw c.emitted-x.ensures.0 at c.in_ok-advance.ensures))

@@ -1,6 +1,6 @@
-use Prim.Native.Nat.{◌+◌, ◌*◌}
-use Rattle.compiler.proofs.Passes.{term_so_far, first_term_way}
-use Rattle.compiler.proofs.Replies.{to_go, Rounds}
+use Prim.Native.Nat.{◌+◌, ◌*◌, ◌-◌}
+use lib.ListN.{length}
+use Rattle.compiler.specs.inner.Walks.{Got, term_so_far, first_term_way}
 use Rattle.compiler.proofs.expression.+bracket_expression_factor_first_term_term.Given as goal
 
 abbrev pub decreases-bracket : goal.decreases-bracket
@@ -19,13 +19,13 @@ abbrev pub decreases-term : goal.decreases-term
 decreases-term l = l.allow * 5 + 2
 
 abbrev pub invariant-expression-loop-so_far : goal.invariant-expression-loop-so_far
-invariant-expression-loop-so_far l = Rounds first_term_way l.text l.names l.initial.table l.allow l.initial.so_far l.table l.so_far
+invariant-expression-loop-so_far l = Got first_term_way l.text l.names l.fn.table l.fn.w l.allow l.names l.table l.so_far.walk l.so_far.need
 
 abbrev pub decreases-expression-loop-so_far : goal.decreases-expression-loop-so_far
-decreases-expression-loop-so_far l = to_go l.text l.so_far
+decreases-expression-loop-so_far l = length l.text - l.so_far.walk.next.place
 
 abbrev pub invariant-term-loop-so_far : goal.invariant-term-loop-so_far
-invariant-term-loop-so_far l = Rounds term_so_far l.text l.names l.initial.table l.allow l.initial.so_far l.table l.so_far
+invariant-term-loop-so_far l = Got term_so_far l.text l.names l.fn.table l.fn.w l.allow l.names l.table l.so_far.walk l.so_far.need
 
 abbrev pub decreases-term-loop-so_far : goal.decreases-term-loop-so_far
-decreases-term-loop-so_far l = to_go l.text l.so_far
+decreases-term-loop-so_far l = length l.text - l.so_far.walk.next.place

@@ -2,29 +2,28 @@
 use mathlib.Core.Path.{sym, ap, ◌∙◌}
 use native.Mathlib.Nat.{le_refl}
 use Rattle.sentence.proofs.Reader.{is_rel}
-use Rattle.compiler.specs.inner.Walks.{Reads}
-use Rattle.compiler.proofs.Passes.{expression_way, comparison_way, comparison_refused, no_relation}
-use Rattle.compiler.proofs.Replies.{got, unsaid, barred, stopped, past, unread, ready_past, ready_got, fits_read, comparison_joins, right_lost, right_said}
+use Rattle.compiler.specs.inner.Walks.{comparison_way}
+use Rattle.compiler.proofs.Passes.{comparison_refused, no_relation}
+use Rattle.compiler.proofs.Replies.{passed_on, ready_past, ready_got, counts_got, comparison_joins, right_lost, right_leads, right_joined}
 use Rattle.compiler.proofs.expression.comparison.Goals as goal
 
-pub returns-in_default : goal.returns-in_default
-returns-in_default c = stopped comparison_way _ _ _ _ _ _ _ c.in_default.is (comparison_refused _ _ _ _ _ (barred expression_way _ _ _ _ _ _ _ c.in_default.is c.expression-left.ensures))
+pub returns-in_err-left : goal.returns-in_err-left
+returns-in_err-left c = passed_on comparison_way _ _ _ _ _ _ _ _ c.from_residual.ensures.1 (comparison_refused c.in_err-left.ensures)
 
 pub returns-then-not-is_rel : goal.returns-then-not-is_rel
-unfolding Reads
-returns-then-not-is_rel c = let g = (got expression_way c.in-Done.is c.expression-left.ensures) in no_relation _ g.what g.passed (ap is_rel (sym c.fixed_ahead-f.ensures) ∙ sym c.is_rel.ensures ∙ c.if-not-is_rel.true)
+returns-then-not-is_rel c = let g = c.in_ok-left.ensures in no_relation _ g.what g.passed (ap is_rel (sym c.fixed_ahead-f.ensures) ∙ sym c.is_rel.ensures ∙ c.if-not-is_rel.true)
 
-pub advance-a-requires : goal.advance-a-requires
-advance-a-requires c = (got expression_way c.in-Done.is c.expression-left.ensures).passed.stands.within
+pub returns-in_err-x : goal.returns-in_err-x
+returns-in_err-x c = passed_on comparison_way _ _ _ _ _ _ _ _ c.from_residual-in_err-x.ensures.1 (right_lost comparison_joins c.in_ok-left.ensures c.fixed_ahead-f.ensures (sym c.is_rel.ensures ∙ c.if-not-is_rel.false) c.in_err-x.ensures)
 
-pub returns-in_default-a : goal.returns-in_default-a
-returns-in_default-a c = stopped comparison_way _ _ _ _ _ _ _ c.in_default-a.is (right_lost comparison_joins (got expression_way c.in-Done.is c.expression-left.ensures) c.fixed_ahead-f.ensures (sym c.is_rel.ensures ∙ c.if-not-is_rel.false) (unread _ _ _ c.advance-a.ensures c.in_default-a.is))
+pub expression-requires-2 : goal.expression-requires-2
+expression-requires-2 c = ready_past (ready_got c.requires c.in_ok-left.ensures) _ (le_refl _) c.in_ok-x.ensures
 
-pub expression-right-requires : goal.expression-right-requires
-expression-right-requires c = (ready_past (ready_got c.requires (got expression_way c.in-Done.is c.expression-left.ensures)) _ (le_refl _) (past _ _ _ c.advance-a.ensures c.in-Done-a.is))
+pub returns-in_err-right : goal.returns-in_err-right
+returns-in_err-right c = passed_on comparison_way _ _ _ _ _ _ _ _ c.from_residual-in_err-right.ensures.1 ((right_leads comparison_joins c.in_ok-left.ensures c.fixed_ahead-f.ensures (sym c.is_rel.ensures ∙ c.if-not-is_rel.false) c.in_ok-x.ensures).refuses c.in_err-right.ensures)
 
 pub joined-requires : goal.joined-requires
-joined-requires c = fits_read (ready_past (ready_got c.requires (got expression_way c.in-Done.is c.expression-left.ensures)) _ (le_refl _) (past _ _ _ c.advance-a.ensures c.in-Done-a.is)) expression_way _ _ _ _ _ c.expression-right.ensures
+joined-requires c = let k = counts_got (ready_past (ready_got c.requires c.in_ok-left.ensures) _ (le_refl _) c.in_ok-x.ensures) c.in_ok-right.ensures in record { code = k.0; need = k.1 }
 
 pub returns : goal.returns
-returns c = rw (c.joined.ensures.value, c.joined.ensures.table_after) (unsaid comparison_way _ _ _ _ _ _ _ _ (right_said comparison_joins (got expression_way c.in-Done.is c.expression-left.ensures) c.fixed_ahead-f.ensures (sym c.is_rel.ensures ∙ c.if-not-is_rel.false) (past _ _ _ c.advance-a.ensures c.in-Done-a.is) _ _ c.expression-right.ensures))
+returns c = rw (c.joined.ensures.value, c.joined.ensures.table_after) (right_joined comparison_joins c.in_ok-left.ensures c.fixed_ahead-f.ensures (sym c.is_rel.ensures ∙ c.if-not-is_rel.false) c.in_ok-x.ensures c.in_ok-right.ensures)

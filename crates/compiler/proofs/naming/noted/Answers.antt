@@ -2,10 +2,10 @@
 use Rattle.compiler.specs.inner.Steps.{noted_walk}
 use Rattle.compiler.proofs.naming.noted.Goals as goal
 
-pub returns-in-At : goal.returns-in-At
+pub returns-in-Some : goal.returns-in-Some
 unfolding noted_walk
-returns-in-At c = rw c.in-At.is
+returns-in-Some c = rw c.in-Some.is
 
-pub returns-in-Nowhere : goal.returns-in-Nowhere
+pub returns-in-None : goal.returns-in-None
 unfolding noted_walk
-returns-in-Nowhere c = rw c.in-Nowhere.is c.faulted.ensures
+returns-in-None c = rw c.in-None.is c.faulted.ensures

@@ -6,10 +6,10 @@ use Rattle.compiler.specs.inner.Steps.{cell_number}
 use borrow.Author.Rules.{rules}
 use Rattle.compiler.proofs.naming.operand.Goals as goal
 
-pub returns-in-At : goal.returns-in-At
+pub returns-in-Some : goal.returns-in-Some
 unfolding cell_number
-returns-in-At c = let f : SFits w32 c.operand.result = search rules in rw (c.in-At.is, to_z-of_z f) c.operand.ensures
+returns-in-Some c = let f : SFits w32 c.operand.result = search rules in rw (c.in-Some.is, to_z-of_z f) c.operand.ensures
 
-pub returns-in-Nowhere : goal.returns-in-Nowhere
+pub returns-in-None : goal.returns-in-None
 unfolding cell_number
-returns-in-Nowhere c = rw c.in-Nowhere.is
+returns-in-None c = rw c.in-None.is
