@@ -7,7 +7,7 @@ use lib.IntN.{ℤ}
 use lib.ListN.{length, take, length-append}
 use lib.Seq.{take_at}
 use Rattle.limits.specs.Limits.{Limits}
-use Rattle.base.specs.declared.Refusal.{Refusal}
+use Rattle.base.specs.declared.Refused.{Refused}
 use Rattle.base.specs.Answers.{given, refused}
 use Rattle.instruction.specs.Instructions.{numbers}
 use Rattle.instruction.proofs.Pairs.{length_numbers}
@@ -15,15 +15,12 @@ use Rattle.rules.specs.Machine.{whole_run}
 use Rattle.machine.specs.Promise.{lends, Ran}
 use Rattle.machine.specs.declared.Report as Code
 use Rattle.tables.specs.Filled.{filled}
-use Rattle.tables.specs.declared.Answer.{Answer}
-use Rattle.tables.specs.declared.Answer.TheVariants as answer
 use Rattle.tables.specs.declared.Counts.{Counts}
 use Rattle.compiler.specs.Answers.{Compiles}
 use Rattle.compiler.specs.Compiled.{Accepted, code_of_text, Compiled, WithAnswer, table_after}
 use Rattle.compiler.proofs.Decides.{Took, took, refusal}
 use Rattle.kit.specs.Kit.{own_run, Faithful, refused_so, ran, OutcomeOf}
-use Rattle.reports.specs.declared.Came.{Came}
-use Rattle.reports.specs.declared.Came.TheVariants as came
+use Rattle.std.specs.Prelude.{Result, Ok, Err}
 use Rattle.kit.proofs.Faithful.{faithful}
 
 -- a text's own code is its table's first part
@@ -31,30 +28,30 @@ pub first_part : (n : ℕ) (a : Accepted) → take (length (code_of_text a) * 2)
 unfolding table_after filled
 first_part n a = take_at (numbers (code_of_text a)) _ (length (code_of_text a) * 2) (omega (arith, length_numbers (code_of_text a)))
 
-module _ {limits : Limits} {text : List ℕ} {n : ℕ} {r : Answer} {table : List ℤ} (w : WithAnswer (Compiled limits text n) (Compiles n r table)) where
-  took_text : {k : Counts} → r ≡ answer.Accepted k → Took (Compiled limits text n) (Compiles n r table) k
-  took_text = took w (λ a s. s.answer)
+module _ (limits : Limits) (text : List ℕ) (n : ℕ) (table : List ℤ) where
+  abbrev Answers : Result Counts Refused → Type 0
+  Answers r = WithAnswer (Compiled limits text n) (Compiles n r table)
 
-  refused_text : {why : Refusal} {p : ℕ} → r ≡ answer.Refused why p → Compiled limits text n (refused why p) × Compiles n r table (refused why p)
-  refused_text = refusal w (λ a s. s.answer)
+  took_text : {k : Counts} → Answers (Ok k) → Took (Compiled limits text n) (Compiles n (Ok k) table) k
+  took_text w = took w (λ a s. s.answer)
 
-  module _ {k : Counts} (is : r ≡ answer.Accepted k) where
-    own_code : take (k.instructions * 2) table ≡ numbers (code_of_text (took_text is).what)
-    own_code = let t = took_text is in ap (take (k.instructions * 2)) t.so.numbers ∙ (rw t.long at (first_part n t.what))
+  module _ {k : Counts} (w : Answers (Ok k)) where
+    own_code : take (k.instructions * 2) table ≡ numbers (code_of_text (took_text w).what)
+    own_code = let t = took_text w in ap (take (k.instructions * 2)) t.so.numbers ∙ (rw t.long at (first_part n t.what))
 
     pub room : k.instructions * 2 ≤ length table
     unfolding table_after filled
-    room = let t = took_text is in omega (arith, ap length t.so.numbers ∙ length-append (numbers (code_of_text t.what)) _, length_numbers (code_of_text t.what), t.long)
+    room = let t = took_text w in omega (arith, ap length t.so.numbers ∙ length-append (numbers (code_of_text t.what)) _, length_numbers (code_of_text t.what), t.long)
 
   module _ (readings : List ℤ) (budget : ℕ) (stack : List ℤ) (out : List ℕ) where
-    abbrev Comes : Came → List ℤ → List ℕ → Type 0
+    abbrev Comes : Result Code.Report Refused → List ℤ → List ℕ → Type 0
     Comes o stack' out' = WithAnswer (Compiled limits text n) (OutcomeOf text readings budget stack out n o table stack' out')
 
-    pub comes_refused : {why : Refusal} {p : ℕ} → r ≡ answer.Refused why p → Comes (came.Refused why p) stack out
-    comes_refused {why} {p} is = let t = refused_text is in record { answer = refused why p; is_given = t.0; so = record { comes = refused_so why p; numbers = t.1.numbers } }
+    pub comes_refused : {e : Refused} → Answers (Err e) → Comes (Err e) stack out
+    comes_refused {e} w = let t = refusal w (λ a s. s.answer) in record { answer = refused e.why e.place; is_given = t.0; so = record { comes = refused_so e.why e.place; numbers = t.1.numbers } }
 
-    pub comes_ran : {k : Counts} → r ≡ answer.Accepted k → {x : Code.Report} {stack' : List ℤ} {out' : List ℕ} → Ran (whole_run (lends text (take (k.instructions * 2) table) readings stack out) budget) stack out x stack' out' → Comes (came.Ran x) stack' out'
+    pub comes_ran : {k : Counts} → Answers (Ok k) → {x : Code.Report} {stack' : List ℤ} {out' : List ℕ} → Ran (whole_run (lends text (take (k.instructions * 2) table) readings stack out) budget) stack out x stack' out' → Comes (Ok x) stack' out'
     unfolding own_run Faithful
-    comes_ran is {x} v =
-        let t = took_text is in
-        record { answer = given t.what; is_given = t.is_given; so = record { comes = ran t.what x (rw (own_code is) at v) (faithful limits text n t.what t.is_given readings (length out) (length stack) budget); numbers = t.so.numbers } }
+    comes_ran w {x} v =
+        let t = took_text w in
+        record { answer = given t.what; is_given = t.is_given; so = record { comes = ran t.what x (rw (own_code w) at v) (faithful limits text n t.what t.is_given readings (length out) (length stack) budget); numbers = t.so.numbers } }

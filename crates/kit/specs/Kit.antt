@@ -1,6 +1,7 @@
 -- Demand 3 as a promise: what comes of a text, by its own code and by its sentences.
-use Rattle.std.specs.Prelude.{◌≡◌, List, ℕ, ◌≤◌, ℤ, length}
+use Rattle.std.specs.Prelude.{◌≡◌, List, ℕ, ◌≤◌, ℤ, length, Result, Ok, Err}
 use Rattle.base.specs.declared.Refusal.{Refusal}
+use Rattle.base.specs.declared.Refused.{Refused}
 use Rattle.base.specs.Answers.{Answer, given, refused}
 use Rattle.instruction.specs.Instructions.{numbers}
 use Rattle.rules.specs.Machine.{Report, report, whole_run}
@@ -9,8 +10,6 @@ use Rattle.machine.specs.Promise.{lends}
 use Rattle.machine.specs.declared.Report as Code
 use Rattle.meaning.specs.Meaning.{meaning}
 use Rattle.compiler.specs.Compiled.{Accepted, code_of_text, need_of, table_after}
-use Rattle.reports.specs.declared.Came.{Came}
-use Rattle.reports.specs.declared.Came.TheVariants.{Ran, Refused}
 
 -- what the sentences of an accepted text come to
 unfoldable pub worked_out : List ℤ → ℕ → ℕ → Accepted → Report
@@ -26,11 +25,11 @@ module _ (text : List ℕ) (readings : List ℤ) (budget : ℕ) (stack : List �
   Faithful a = need_of a ≤ length stack → own_run a ≡ worked_out readings (length out) budget a
 
   -- the outcome, and the stack and the room after it
-  pub data ComesTo : Answer Accepted → Came → List ℤ → List ℕ → Type 0 where
-    refused_so : (why : Refusal) (p : ℕ) → ComesTo (refused why p) (Refused why p) stack out
-    ran : (a : Accepted) (r : Code.Report) {stack' : List ℤ} {out' : List ℕ} → Promise.Ran (own_run a) stack out r stack' out' → Faithful a → ComesTo (given a) (Ran r) stack' out'
+  pub data ComesTo : Answer Accepted → Result Code.Report Refused → List ℤ → List ℕ → Type 0 where
+    refused_so : (why : Refusal) (p : ℕ) → ComesTo (refused why p) (Err (record { why = why; place = p })) stack out
+    ran : (a : Accepted) (r : Code.Report) {stack' : List ℤ} {out' : List ℕ} → Promise.Ran (own_run a) stack out r stack' out' → Faithful a → ComesTo (given a) (Ok r) stack' out'
 
   -- with the code table, of n numbers, as the compiler leaves it
-  pub record OutcomeOf (n : ℕ) (r : Came) (table' : List ℤ) (stack' : List ℤ) (out' : List ℕ) (a : Answer Accepted) : Type 0 where
+  pub record OutcomeOf (n : ℕ) (r : Result Code.Report Refused) (table' : List ℤ) (stack' : List ℤ) (out' : List ℕ) (a : Answer Accepted) : Type 0 where
     pub comes : ComesTo a r stack' out'
     pub numbers : table' ≡ table_after n a

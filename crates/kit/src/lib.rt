@@ -6,10 +6,11 @@ ghost use Rattle.limits.specs.Limits.{the_limits};
 ghost use Rattle.compiler.specs.Compiled.{Compiled, WithAnswer};
 ghost use Rattle.kit.specs.Kit.{OutcomeOf};
 
-use reports::Came;
-use tables::Answer;
+use base::Refused;
+use machine::Report;
 
 // Compiles a text and runs its own code, which is the counted pairs of the table and no more.
+#[tactic(auto, using(crate::proofs::Comes::room, crate::proofs::Comes::comes_refused, crate::proofs::Comes::comes_ran))]
 pub fn run_text(
     text: &[u8],
     readings: &[i32],
@@ -17,15 +18,10 @@ pub fn run_text(
     table: &mut [i32],
     stack: &mut [i32],
     out: &mut [u8],
-) -> Came
+) -> Result<Report, Refused>
     ensures { WithAnswer (Compiled the_limits text.entry.now (length table.old)) (OutcomeOf text.entry.now readings.now budget stack.old out.old (length table.old) result table.new stack.new out.new) }
 {
-    let a = compiler::compile(text, table);
-    match a {
-        Answer::Refused(why, place) => Came::Refused(why, place),
-        Answer::Accepted(counts) => {
-            let end = counts.instructions * 2;
-            Came::Ran(machine::run(text, &table[..end], readings, budget, stack, out))
-        }
-    }
+    let counts = compiler::compile(text, table)?;
+    let own_code = &table[..counts.instructions * 2];
+    Ok(machine::run(text, own_code, readings, budget, stack, out))
 }
