@@ -1,8 +1,6 @@
 -- An input that comes in chunks: what `start`, `more` for each chunk and `finish` promise leaves one result, that of the whole input by the paper's definition. Assumes nothing.
-use mathlib.Core.Path.{◌≡◌, refl, sym, ap, ◌∙◌}
-use mathlib.Core.List.{List, [], ◌∷◌, ◌++◌, flatten}
-use Prim.Native.Nat.{ℕ}
-use lib.IntN.{ℤ}
+use Rattle.std.proofs.Common.{◌≡◌, refl, sym, ap, ◌∙◌, List, [], ◌∷◌, ◌++◌, ℕ, ℤ}
+use mathlib.Core.List.{flatten}
 use Rattle.readings.specs.Taken.{Taken, taken_in}
 use Rattle.readings.specs.declared.Reader.{Reader}
 

@@ -7,70 +7,66 @@ ghost use Rattle.readings.specs.inner.Rest.{takes, over};
 ghost use Rattle.readings.specs.inner.Steps.{stored, ended};
 ghost use Rattle.readings.specs.Taken.{taken_in};
 
-use reading::{Phase, Word, number_in_range, word_more};
+use reading::{Phase, number_in_range, word_more};
 
 // Where the input stands, and how many readings are stored.
-#[derive(Clone, Copy)]
+#[derive(Clone, Copy, PartialEq, Eq, Debug)]
 pub struct Reader {
     pub phase: Phase,
     pub count: usize,
 }
 
 // A number is stored if it is in range and there is room; else the readings are over.
+#[tactic(auto, using(std::proofs::lemmas::Bool::Decides::nat_tests, std::proofs::lemmas::Int::ints), unfolding(reading::specs::Reading::number_in_range, crate::specs::inner::Steps::stored))]
 fn store(negative: bool, n: u32, count: usize, numbers: &mut [i32]) -> Reader
     ensures { record { reader = result; numbers = numbers.new } ≡ stored (number_in_range negative n) count numbers.old }
 {
-    let word = number_in_range(negative, n);
-    let Word::Reads(z) = word else {
-        return Reader {
+    match number_in_range(negative, n) {
+        // an index and no `get_mut`: after that no element of the numbers is known, which the contract speaks of
+        Some(z) if count < numbers.len() => {
+            numbers[count] = z;
+            Reader {
+                phase: Phase::Between,
+                count: count + 1,
+            }
+        }
+        _ => Reader {
             phase: Phase::Over,
             count,
-        };
-    };
-    if numbers.len() <= count {
-        return Reader {
-            phase: Phase::Over,
-            count,
-        };
-    }
-    numbers[count] = z;
-    Reader {
-        phase: Phase::Between,
-        count: count + 1,
+        },
     }
 }
 
 // A word ends, by a separator or by the end of the input.
+#[tactic(auto, unfolding(crate::specs::inner::Steps::ended, crate::specs::inner::Steps::ended_at))]
 fn end_word(r: Reader, numbers: &mut [i32]) -> Reader
     ensures { record { reader = result; numbers = numbers.new } ≡ ended (record { reader = r; numbers = numbers.old }) }
 {
-    let phase = r.phase;
-    match phase {
-        Phase::Between => r,
+    match r.phase {
+        Phase::Between | Phase::Over => r,
         Phase::Minus => Reader {
             phase: Phase::Over,
-            count: r.count,
+            ..r
         },
         Phase::Number(negative, n) => store(negative, n, r.count, numbers),
-        Phase::Over => r,
     }
 }
 
+#[tactic(auto, using(crate::proofs::Takes::at_separator, crate::proofs::Takes::at_other))]
 fn take_byte(r: Reader, b: u8, numbers: &mut [i32]) -> Reader
     ensures { (rest : List ℕ) → takes result numbers.new rest ≡ takes r numbers.old (b ∷ rest) }
 {
     if base::is_separator(b) {
         return end_word(r, numbers);
     }
-    let phase = r.phase;
-    let word = word_more(phase, b);
     Reader {
-        phase: word,
-        count: r.count,
+        phase: word_more(r.phase, b),
+        ..r
     }
 }
 
 // Before the first byte.
+#[tactic(auto, using(crate::proofs::Takes::at_start))]
 pub fn start() -> Reader
     ensures { (l : List ℤ) (rest : List ℕ) → takes result l rest ≡ taken_in l rest }
 {
@@ -85,32 +81,24 @@ pub fn more(r: Reader, bytes: &[u8], numbers: &mut [i32]) -> Reader
     ensures { (rest : List ℕ) → takes result numbers.new rest ≡ takes r numbers.old (bytes.now ++ rest) }
 {
     let mut reader = r;
-    let mut i = 0;
-    while i < bytes.len() {
-        reader = take_byte(reader, bytes[i], numbers);
-        i += 1;
+    for b in bytes {
+        reader = take_byte(reader, *b, numbers);
     }
     reader
 }
 
 // Whether the readings are over, whatever follows: something came that is none, or the numbers are full.
+#[tactic(auto, unfolding(crate::specs::inner::Rest::over, crate::specs::inner::Rest::stopped))]
 pub fn is_over(r: Reader, numbers: &[i32]) -> bool
     ensures { result ≡ over r numbers.now }
 {
-    let full = numbers.len() <= r.count;
-    let phase = r.phase;
-    match phase {
-        Phase::Between => full,
-        Phase::Minus => full,
-        Phase::Number(_, _) => full,
-        Phase::Over => true,
-    }
+    r.phase == Phase::Over || numbers.len() <= r.count
 }
 
 // After the last chunk: how many readings there are.
+#[tactic(auto, using(crate::proofs::Takes::at_end))]
 pub fn finish(r: Reader, numbers: &mut [i32]) -> usize
     ensures { record { count = result; numbers = numbers.new } ≡ takes r numbers.old [] }
 {
-    let last = end_word(r, numbers);
-    last.count
+    end_word(r, numbers).count
 }

@@ -1,13 +1,11 @@
 -- How a word is read byte by byte: what the rest of it makes of a phase, and what a byte makes of one.
-use Rattle.std.specs.Prelude.{List, Bool, true, false, cond, ◌&&◌, ℕ, ◌+◌, ◌-◌, ◌*◌, eqb, ℤ}
+use Rattle.std.specs.Prelude.{List, Bool, true, false, cond, ◌&&◌, ℕ, ◌+◌, ◌-◌, ◌*◌, eqb, ℤ, Option as RustOption, Some, None}
 use Rattle.std.proofs.Math.Option.{Option, none, some}
 use Prim.Native.Char.{code}
 use Rattle.base.specs.Bytes.{digit, all, value}
 use Rattle.reading.specs.Reading.{in_signed_range, number_in_range, digits_reading, reading}
 use Rattle.reading.specs.declared.Phase.{Phase}
 use Rattle.reading.specs.declared.Phase.TheVariants.{Between, Minus, Number, Over}
-use Rattle.reading.specs.declared.Word.{Word}
-use Rattle.reading.specs.declared.Word.TheVariants.{Reads, Wrong}
 
 -- what a word reads as whose beginning led to this phase, where w is the rest of it
 unfoldable pub word_of : Phase → List ℕ → Option ℤ
@@ -30,6 +28,6 @@ word_more (Number negative n) b = digit_more negative n b
 word_more Over b = Over
 
 -- what the code holds of it
-abbrev pub as_reading : Word → Option ℤ
-as_reading (Reads z) = some z
-as_reading Wrong = none
+abbrev pub as_reading : RustOption ℤ → Option ℤ
+as_reading (Some z) = some z
+as_reading None = none
