@@ -4,7 +4,6 @@
 // or a text at a limit: its beginning, what is put so many times, how many, its middle, and what closes it as often.
 #![tactic(auto)]
 
-use input::Loaded;
 use std::io;
 
 mod answers;
@@ -48,10 +47,7 @@ fn each(rt: &HostRuntime, all: &[u8]) -> io::Result<()> {
 
 fn main(rt: HostRuntime) -> io::Result<()> {
     let mut file = [0u8; 8192];
-    let n = match input::text_of(&mut rt.stdin(), &mut file) {
-        Loaded::Bytes(n) => n,
-        Loaded::Unreadable(why) => return Err(why),
-    };
+    let n = input::text_of(&mut rt.stdin(), &mut file)?;
     cases::put_meant(&mut file);
     each(&rt, base::part(&file, 0, n))
 }

@@ -1,14 +1,15 @@
 // The programs and the outside: their files are read, what they say is written, and what goes wrong there is told.
 #![tactic(auto)]
 
-ghost use Rattle.std.specs.Prelude.{◌≡◌, ◌⊎◌, length};
+ghost use Rattle.std.specs.Prelude.{◌≡◌, ◌⊎◌, ◌≤◌, List, ℕ, length, IfSome};
 ghost use Rattle.std.specs.Process.{exit_status};
-ghost use Rattle.input.specs.Received.{Receives};
-ghost use Rattle.input.specs.Within.{Within};
+ghost use Rattle.std.specs.Result.{result_ok};
+ghost use Rattle.readings.specs.Readings.{readings};
+ghost use Rattle.input.specs.Received.{AreReadings};
 ghost use Rattle.desk.specs.Lessons.{Brings};
 
-use input::{Loaded, Received};
 use std::env::Env;
+use std::io;
 use std::io::{Error, ErrorKind, Write};
 use std::process::ExitCode;
 
@@ -33,70 +34,91 @@ pub fn trouble(rt: &HostRuntime, what: &[u8], why: &Error) -> ExitCode
     end_with(TROUBLE)
 }
 
-fn say_trouble(rt: &HostRuntime, what: &[u8], why: &Error) -> std::io::Result<()> {
+fn say_trouble(rt: &HostRuntime, what: &[u8], why: &Error) -> io::Result<()> {
     rt.stderr().write_all(what)?;
     eprintln!(rt; ": {why}")
 }
 
-// The text of the file that the first argument names. Where there is none, that is told.
-fn text_argument(rt: &HostRuntime, text: &mut [u8]) -> Loaded
-    ensures { Within result (length text.new) }
+// What came of reading. Where nothing could be read, that is told.
+pub fn told<T: Drop>(rt: &HostRuntime, what: &[u8], came: io::Result<T>) -> Option<T>
+    ensures { result ≡ result_ok came }
 {
-    let mut path = [0u8; PATH];
-    let Ok(n) = rt.arg(1, &mut path) else {
-        let why = Error::from(ErrorKind::NotFound);
-        trouble(rt, b"the name of a text file", &why);
-        return Loaded::Unreadable(why);
-    };
-    let loaded = input::text_file(rt, &path[..n], text);
-    if let Loaded::Unreadable(why) = &loaded {
-        trouble(rt, &path[..n], why);
-    }
-    loaded
+    came.inspect_err(|why| {
+        trouble(rt, what, why);
+    })
+    .ok()
 }
 
-// The text on standard input.
-pub fn text_input(rt: &HostRuntime, text: &mut [u8]) -> Loaded
-    ensures { Within result (length text.new) }
+// The text of the file that the first argument names. Where there is none, that is told.
+fn text_argument(rt: &HostRuntime, text: &mut [u8]) -> Option<usize>
+    ensures { IfSome result (λ n. n ≤ length text.new) }
 {
-    let loaded = input::text_of(&mut rt.stdin(), text);
-    if let Loaded::Unreadable(why) = &loaded {
-        trouble(rt, b"standard input", why);
-    }
-    loaded
+    let mut path = [0u8; PATH];
+    let named = rt
+        .arg(1, &mut path)
+        .map_err(|_| Error::from(ErrorKind::NotFound));
+    let n = told(rt, b"the name of a text file", named)?;
+    told(rt, &path[..n], input::text_file(rt, &path[..n], text))
+}
+
+// The text on standard input, and how many bytes. Where it cannot be read, that is told.
+pub fn text_input(rt: &HostRuntime, text: &mut [u8]) -> Option<usize>
+    ensures { IfSome result (λ n. n ≤ length text.new) }
+{
+    told(
+        rt,
+        b"standard input",
+        input::text_of(&mut rt.stdin(), text),
+    )
 }
 
 // The readings on standard input.
-fn readings_input(rt: &HostRuntime, numbers: &mut [i32]) -> Received
-    ensures { Receives result numbers.old numbers.new }
+fn readings_input(rt: &HostRuntime, numbers: &mut [i32]) -> Option<usize>
+    ensures { IfSome result (λ n. AreReadings n numbers.old numbers.new) }
 {
-    let received = input::readings_of(&mut rt.stdin(), numbers);
-    if let Received::Unreadable(why) = &received {
-        trouble(rt, b"standard input", why);
-    }
-    received
+    told(
+        rt,
+        b"standard input",
+        input::readings_of(&mut rt.stdin(), numbers),
+    )
 }
 
 // The bytes of a text, and its readings.
 #[derive(Clone, Copy)]
-pub enum Lesson {
-    Read(usize, usize),
-    Unreadable,
+pub struct Lesson {
+    pub size: usize,
+    pub count: usize,
 }
 
 // What a lesson is run on. Where it cannot be read, that is told.
-pub fn read_lesson(rt: &HostRuntime, text: &mut [u8], numbers: &mut [i32]) -> Lesson
+pub fn read_lesson(rt: &HostRuntime, text: &mut [u8], numbers: &mut [i32]) -> Option<Lesson>
     ensures { Brings result text.new numbers.old numbers.new }
 {
-    let loaded = text_argument(rt, text);
-    let Loaded::Bytes(size) = loaded else {
-        return Lesson::Unreadable;
-    };
-    let received = readings_input(rt, numbers);
-    let Received::Readings(count) = received else {
-        return Lesson::Unreadable;
-    };
-    Lesson::Read(size, count)
+    let size = text_argument(rt, text)?;
+    let count = readings_input(rt, numbers)?;
+    Some(Lesson { size, count })
+}
+
+// Does with the text on standard input what is to be done with it. A text that cannot be read is trouble, and told.
+pub fn with_text<F: FnOnce(&[u8]) -> ExitCode>(rt: &HostRuntime, text: &mut [u8], work: F) -> ExitCode
+    requires { F.IsAlwaysCallable work }
+    ensures { (exit_status result ≡ TROUBLE) ⊎ ((t : _) × F.post work t result) }
+{
+    match text_input(rt, text) {
+        Some(size) => work(&text[..size]),
+        None => end_with(TROUBLE),
+    }
+}
+
+// The same with what a lesson is run on.
+pub fn with_lesson<F: FnOnce(&[u8], &[i32]) -> ExitCode>(rt: &HostRuntime, text: &mut [u8], numbers: &mut [i32], work: F) -> ExitCode
+    requires { F.IsAlwaysCallable work }
+    ensures { (exit_status result ≡ TROUBLE) ⊎ ((t : _) × (r : _) × (input : List ℕ) × (r.now ≡ readings (length numbers.old) input) × F.post work t r result) }
+{
+    match read_lesson(rt, text, numbers) {
+        Some(m) => work(&text[..m.size], &numbers[..m.count]),
+        None => end_with(TROUBLE),
+    }
 }
 
 // Writes what a program says, and answers its status; a write that fails is trouble, since nobody got what was said.

@@ -1,8 +1,5 @@
 -- What is loaded fits the buffer.
-use Rattle.std.specs.Prelude.{ℕ, ◌≤◌}
-use Rattle.input.specs.declared.Loaded.{Loaded}
-use Rattle.input.specs.declared.Loaded.TheVariants.{Bytes, Unreadable}
+use Rattle.std.specs.Prelude.{ℕ, ◌≤◌, Result, IfOk}
 
-abbrev pub Within : Loaded → ℕ → Type 0
-Within (Bytes n) size = n ≤ size
-Within (Unreadable why) size = Unit {0}
+abbrev pub Within : {E : Type 0} → Result ℕ E → ℕ → Type 0
+Within loaded size = IfOk loaded (λ n. n ≤ size)

@@ -3,7 +3,6 @@
 #![tactic(auto)]
 
 use base::Refused;
-use input::Loaded;
 use lexeme::{Kind, Lexeme, fixed};
 use limits::Limits;
 use std::io;
@@ -99,10 +98,7 @@ fn lengths(rt: &HostRuntime) -> io::Result<()> {
 
 fn main(rt: HostRuntime) -> io::Result<()> {
     let mut file = [0u8; 8192];
-    let n = match input::text_of(&mut rt.stdin(), &mut file) {
-        Loaded::Bytes(n) => n,
-        Loaded::Unreadable(why) => return Err(why),
-    };
+    let n = input::text_of(&mut rt.stdin(), &mut file)?;
     cases::put_meant(&mut file);
     each(&rt, base::part(&file, 0, n))?;
     lengths(&rt)

@@ -1,18 +1,16 @@
 // The listing of the text on standard input, or the line of its refusal.
 #![tactic(auto)]
 
-use input::Loaded;
 use limits::Limits;
 use std::process::ExitCode;
 
+fn list(rt: &HostRuntime, text: &[u8]) -> ExitCode {
+    let mut page = [0u8; tells::LISTING];
+    let said = programs::listing(text, &mut page);
+    desk::deliver(rt, &page[..said.out], b"", said.status)
+}
+
 fn main(rt: HostRuntime) -> ExitCode {
     let mut text = [0u8; Limits::TEXT + 1];
-    let loaded = desk::text_input(&rt, &mut text);
-    let Loaded::Bytes(size) = loaded else {
-        return desk::end_with(desk::TROUBLE);
-    };
-    let mut page = [0u8; tells::LISTING];
-    let s = programs::listing(&text[..size], &mut page);
-    let n = s.out;
-    desk::deliver(&rt, &page[..n], b"", s.status)
+    desk::with_text(&rt, &mut text, |text| list(&rt, text))
 }

@@ -5,7 +5,6 @@
 
 ghost use Rattle.std.specs.Prelude.{◌≤◌};
 
-use input::Loaded;
 use machine::Report;
 use std::io;
 use std::io::Write;
@@ -198,9 +197,6 @@ fn each(rt: &HostRuntime, all: &[u8]) -> io::Result<()> {
 
 fn main(rt: HostRuntime) -> io::Result<()> {
     let mut input = [0u8; 16384];
-    let n = match input::text_of(&mut rt.stdin(), &mut input) {
-        Loaded::Bytes(n) => n,
-        Loaded::Unreadable(why) => return Err(why),
-    };
+    let n = input::text_of(&mut rt.stdin(), &mut input)?;
     each(&rt, base::part(&input, 0, n))
 }

@@ -2,7 +2,6 @@
 // A case of standard input is a label, a text and a place, between bars; those after `#` come after the longest line.
 #![tactic(auto)]
 
-use input::Loaded;
 use limits::Limits;
 use std::io;
 use std::io::Write;
@@ -79,10 +78,7 @@ fn tried(rt: &HostRuntime, all: &[u8]) -> io::Result<()> {
 
 fn main(rt: HostRuntime) -> io::Result<()> {
     let mut file = [0u8; 8192];
-    let n = match input::text_of(&mut rt.stdin(), &mut file) {
-        Loaded::Bytes(n) => n,
-        Loaded::Unreadable(why) => return Err(why),
-    };
+    let n = input::text_of(&mut rt.stdin(), &mut file)?;
     cases::put_meant(&mut file);
     tried(&rt, base::part(&file, 0, n))?;
     short_page(&rt)

@@ -1,7 +1,6 @@
 // What the programs say of each case of standard input, from bytes to bytes. `stdin` says how a case is written.
 #![tactic(auto)]
 
-use input::Loaded;
 use limits::{Limits, Station};
 use std::io;
 
@@ -79,9 +78,6 @@ fn each(rt: &HostRuntime, all: &[u8]) -> io::Result<()> {
 
 fn main(rt: HostRuntime) -> io::Result<()> {
     let mut file = [0u8; 8192];
-    let n = match input::text_of(&mut rt.stdin(), &mut file) {
-        Loaded::Bytes(n) => n,
-        Loaded::Unreadable(why) => return Err(why),
-    };
+    let n = input::text_of(&mut rt.stdin(), &mut file)?;
     each(&rt, base::part(&file, 0, n))
 }

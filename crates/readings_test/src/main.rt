@@ -3,7 +3,6 @@
 // readings, and between bars, after each of the two chunks, whether they are over.
 #![tactic(auto)]
 
-use input::Loaded;
 use readings::{Reader, finish, is_over, more, start};
 use std::io;
 use std::io::Write;
@@ -125,10 +124,7 @@ fn each(rt: &HostRuntime, all: &[u8]) -> io::Result<()> {
 
 fn main(rt: HostRuntime) -> io::Result<()> {
     let mut file = [0u8; 4096];
-    let n = match input::text_of(&mut rt.stdin(), &mut file) {
-        Loaded::Bytes(n) => n,
-        Loaded::Unreadable(why) => return Err(why),
-    };
+    let n = input::text_of(&mut rt.stdin(), &mut file)?;
     cases::put_meant(&mut file);
     each(&rt, base::part(&file, 0, n))
 }

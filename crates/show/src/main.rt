@@ -1,21 +1,19 @@
 // What came of the text file that its argument names, on the readings of standard input, in plain words.
 #![tactic(auto)]
 
-use desk::Lesson;
 use limits::{Limits, Station};
 use std::process::ExitCode;
+
+fn show(rt: &HostRuntime, text: &[u8], readings: &[i32]) -> ExitCode {
+    let mut room = [0u8; Station::ROOM];
+    let came = programs::lesson(text, readings, &mut room);
+    let mut page = [0u8; pupil::SHOWN];
+    let said = pupil::show(came, words::of_the_paper(), text, &room, &mut page);
+    desk::deliver(rt, &page[..said.out], b"", said.status)
+}
 
 fn main(rt: HostRuntime) -> ExitCode {
     let mut text = [0u8; Limits::TEXT + 1];
     let mut numbers = [0i32; Station::READINGS];
-    let read = desk::read_lesson(&rt, &mut text, &mut numbers);
-    let Lesson::Read(size, count) = read else {
-        return desk::end_with(desk::TROUBLE);
-    };
-    let mut room = [0u8; Station::ROOM];
-    let came = programs::lesson(&text[..size], &numbers[..count], &mut room);
-    let mut page = [0u8; pupil::SHOWN];
-    let s = pupil::show(came, words::of_the_paper(), &text[..size], &room, &mut page);
-    let n = s.out;
-    desk::deliver(&rt, &page[..n], b"", s.status)
+    desk::with_lesson(&rt, &mut text, &mut numbers, |text, readings| show(&rt, text, readings))
 }

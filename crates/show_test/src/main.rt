@@ -2,7 +2,6 @@
 // A case of standard input is a text, a bar and an input; those after `#` come after the texts that are refused as a whole.
 #![tactic(auto)]
 
-use input::Loaded;
 use limits::{Limits, Station};
 use std::io;
 use std::io::Write;
@@ -85,10 +84,7 @@ fn tried(rt: &HostRuntime, all: &[u8]) -> io::Result<()> {
 
 fn main(rt: HostRuntime) -> io::Result<()> {
     let mut file = [0u8; 8192];
-    let n = match input::text_of(&mut rt.stdin(), &mut file) {
-        Loaded::Bytes(n) => n,
-        Loaded::Unreadable(why) => return Err(why),
-    };
+    let n = input::text_of(&mut rt.stdin(), &mut file)?;
     cases::put_meant(&mut file);
     tried(&rt, base::part(&file, 0, n))
 }
