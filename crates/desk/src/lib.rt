@@ -65,11 +65,7 @@ fn text_argument(rt: &HostRuntime, text: &mut [u8]) -> Option<usize>
 pub fn text_input(rt: &HostRuntime, text: &mut [u8]) -> Option<usize>
     ensures { IfSome result (λ n. n ≤ length text.new) }
 {
-    told(
-        rt,
-        b"standard input",
-        input::text_of(&mut rt.stdin(), text),
-    )
+    told(rt, b"standard input", input::text_of(&mut rt.stdin(), text))
 }
 
 // The readings on standard input.
@@ -100,7 +96,11 @@ pub fn read_lesson(rt: &HostRuntime, text: &mut [u8], numbers: &mut [i32]) -> Op
 }
 
 // Does with the text on standard input what is to be done with it. A text that cannot be read is trouble, and told.
-pub fn with_text<F: FnOnce(&[u8]) -> ExitCode>(rt: &HostRuntime, text: &mut [u8], work: F) -> ExitCode
+pub fn with_text<F: FnOnce(&[u8]) -> ExitCode>(
+    rt: &HostRuntime,
+    text: &mut [u8],
+    work: F,
+) -> ExitCode
     requires { F.IsAlwaysCallable work }
     ensures { (exit_status result ≡ TROUBLE) ⊎ ((t : _) × F.post work t result) }
 {
@@ -111,7 +111,12 @@ pub fn with_text<F: FnOnce(&[u8]) -> ExitCode>(rt: &HostRuntime, text: &mut [u8]
 }
 
 // The same with what a lesson is run on.
-pub fn with_lesson<F: FnOnce(&[u8], &[i32]) -> ExitCode>(rt: &HostRuntime, text: &mut [u8], numbers: &mut [i32], work: F) -> ExitCode
+pub fn with_lesson<F: FnOnce(&[u8], &[i32]) -> ExitCode>(
+    rt: &HostRuntime,
+    text: &mut [u8],
+    numbers: &mut [i32],
+    work: F,
+) -> ExitCode
     requires { F.IsAlwaysCallable work }
     ensures { (exit_status result ≡ TROUBLE) ⊎ ((t : _) × (r : _) × (input : List ℕ) × (r.now ≡ readings (length numbers.old) input) × F.post work t r result) }
 {
