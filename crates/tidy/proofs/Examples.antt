@@ -2,7 +2,7 @@
 use mathlib.Core.Path.{◌≡◌, refl}
 use mathlib.Core.List.{List, [], ◌∷◌, map}
 use Prim.Native.String.{String}
-use Rattle.limits.specs.Limits.{Sizes}
+use Rattle.limits.specs.Limits.{the_sizes}
 use Rattle.base.specs.Answers.{pass}
 use Rattle.base.specs.Bytes.{bytes, bytes_from, separator, small, capital, letter, digit, letter_or_digit, no_quote, run, begins, all, same, value}
 use Rattle.numbers.specs.Numbers.{digits, decimal}
@@ -28,9 +28,6 @@ examples =
     ∷ example "DO PRINTI 2147483647" "DO PRINTI 2147483647"
     ∷ []
 
-abbrev pub most : Sizes
-most = record { word = 32; string = 255; literal = 2147483647 }
-
-pub yield_as_expected : map (λ (x : Example). tidy_of most (bytes x.text)) examples ≡ map (λ (x : Example). bytes x.copy) examples
+pub yield_as_expected : map (λ (x : Example). tidy_of the_sizes (bytes x.text)) examples ≡ map (λ (x : Example). bytes x.copy) examples
 unfolding examples tidy_of of_lexemes tidy_text whats without_end spaced after_space written spelled_in always_written code_of decimal digits lexemes lexemes_from sized too_large next here symbol symbols colon string_at word capital_word keywords found pass bytes bytes_from separator small capital letter digit letter_or_digit no_quote run begins all same value
 yield_as_expected = refl

@@ -8,26 +8,24 @@ use borrow.Author.Tests.{le-ltb, lt-ltb, ltb-false}
 use lib.Dec.{ltb}
 use lib.ListN.{length, take, drop, replicate, length-append, length-drop}
 use lib.Seq.{length-take-le, take_at}
+use Rattle.std.specs.Result.{result_unwrap_or}
 use Rattle.limits.specs.Limits.{Limits, Sizes}
-use Rattle.base.specs.declared.Refusal.{Refusal}
+use Rattle.base.specs.declared.Refused as base
 use Rattle.base.specs.Answers as A
 use Rattle.base.specs.Answers.{given, refused}
 use Rattle.lexeme.specs.Lexemes.{Placed, lexemes}
 use Rattle.lexeme.proofs.Ahead.{lexemes_ahead}
-use Rattle.rooms.specs.declared.Printed.{Printed}
-use Rattle.rooms.specs.declared.Printed.TheVariants.{UpTo, DoesNotFit}
+use Rattle.std.specs.Prelude.{Option, Some, None, ok_or, Result, Ok, Err}
 use Rattle.spelling.specs.Spelling.{tidy_text}
-use Rattle.tables.specs.declared.Answer.{Answer}
-use Rattle.tables.specs.declared.Answer.TheVariants as answer
 use Rattle.tables.specs.declared.Counts.{Counts}
 use Rattle.compiler.specs.Answers.{answered}
 use Rattle.compiler.specs.Compiled.{Accepted, Judged, accepted, WithAnswer}
 use Rattle.compiler.proofs.Judging.{with_answer}
 use Rattle.compiler.proofs.Decides.{took, refusal}
 use Rattle.tidy.specs.Tidy.{of_lexemes, tidy_of, longer, tidied, bytes, Tidy}
-use Rattle.tidy.specs.inner.Copies.{Puts, Writes, copied_length, CopiedSo}
-use Rattle.tidy.specs.declared.Tidied.{Tidied}
-use Rattle.tidy.specs.declared.Tidied.TheVariants.{Copied, Refused, NoRoom}
+use Rattle.tidy.specs.inner.Copies.{Puts, Writes, CopiedSo}
+use Rattle.tidy.specs.declared.Uncopied.{Uncopied}
+use Rattle.tidy.specs.declared.Uncopied.TheVariants.{Refused, NoRoom}
 use Rattle.tidy.proofs.Puts.{put_up_to, put_too_long}
 
 -- the lexemes of an accepted text
@@ -39,9 +37,9 @@ unfolding tidy_of of_lexemes
 tidy_is most text ls e = ap of_lexemes e
 
 module _ (limits : Limits) (text room : List ℕ) where
-  pub by_refusal : {r : Answer} → WithAnswer (Judged limits text) (λ a. r ≡ answered a) → {why : Refusal} {p : ℕ} → r ≡ answer.Refused why p → CopiedSo limits text room (Refused why p) room
-  unfolding tidied bytes copied_length
-  by_refusal w {why} {p} is = record { answer = refused why p; is_given = (refusal w (λ a s. s) is).0; so = record { answer = refl; stands = refl; long = refl } }
+  pub by_refusal : {r : base.Refused} → WithAnswer (Judged limits text) (λ a. Err r ≡ answered a) → CopiedSo limits text room (Err (Refused r)) room
+  unfolding tidied bytes
+  by_refusal {r} w = record { answer = refused r.why r.place; is_given = (refusal w (λ a s. s)).0; so = record { answer = refl; stands = refl; long = refl } }
 
 module _ (limits : Limits) (text room : List ℕ) (most : ℕ) (is_most : most ≡ min (length room) limits.text) where
   fits : length (tidy_of limits.sizes text) ≤ most → longer limits text (length room) ≡ false
@@ -59,10 +57,10 @@ module _ (limits : Limits) (text room : List ℕ) (most : ℕ) (is_most : most �
   front_long : length (take most room) ≡ most
   front_long = length-take-le most room (omega arith)
 
-  module _ {r : Answer} (w : WithAnswer (Judged limits text) (λ a. r ≡ answered a)) where
-    module _ (small : limits.sizes.literal ≤ 2147483647) {k : Counts} (is : r ≡ answer.Accepted k) {q : Printed} {front : List ℕ} (writes : Writes text (take most room) q front) where
-      abbrev j : Judged limits text (given (took w (λ a s. s) is).what)
-      j = (took w (λ a s. s) is).is_given
+  module _ {k : Counts} (w : WithAnswer (Judged limits text) (λ a. Ok k ≡ answered a)) where
+    module _ (small : limits.sizes.literal ≤ 2147483647) {q : Option ℕ} {front : List ℕ} (writes : Writes text (take most room) q front) where
+      abbrev j : Judged limits text (given (took w (λ a s. s)).what)
+      j = (took w (λ a s. s)).is_given
 
       puts : Puts (tidy_of limits.sizes text) (take most room) 0 q front
       puts =
@@ -73,14 +71,14 @@ module _ (limits : Limits) (text room : List ℕ) (most : ℕ) (is_most : most �
       whole_long : length (front ++ drop most room) ≡ length room
       whole_long = length-append front (drop most room) ∙ rw (writes.long, front_long) (omega (arith, length-drop most room))
 
-      pub by_no_room : q ≡ DoesNotFit → CopiedSo limits text room NoRoom (front ++ drop most room)
-      unfolding tidied bytes copied_length
+      by_no_room : q ≡ None → CopiedSo limits text room (Err NoRoom) (front ++ drop most room)
+      unfolding tidied bytes
       by_no_room e =
           let no = no_fit (omega (arith, put_too_long puts e, front_long)) in
-          record { answer = given (took w (λ a s. s) is).what; is_given = j; so = record { answer = rw no; stands = rw no; long = whole_long } }
+          record { answer = given (took w (λ a s. s)).what; is_given = j; so = record { answer = rw no; stands = rw no; long = whole_long } }
 
-      pub by_copy : (n : ℕ) → q ≡ UpTo n → CopiedSo limits text room (Copied n) (front ++ drop most room)
-      unfolding tidied bytes copied_length
+      by_copy : (n : ℕ) → q ≡ Some n → CopiedSo limits text room (Ok n) (front ++ drop most room)
+      unfolding tidied bytes
       by_copy n e =
           let f = put_up_to n puts e in
           let t = tidy_of limits.sizes text in
@@ -88,21 +86,28 @@ module _ (limits : Limits) (text room : List ℕ) (most : ℕ) (is_most : most �
           let yes = fits (omega (arith, f.0, front_long)) in
           let there : front ≡ t ++ drop (0 + length t) (take most room) = puts.there f.0 in
           let stands : take n (front ++ drop most room) ≡ t = rw (there, append_assoc t (drop (0 + length t) (take most room)) (drop most room)) (take_at t _ n (sym long)) in
-          record { answer = given (took w (λ a s. s) is).what; is_given = j; so = record { answer = rw yes (ap Copied long); stands = rw yes stands; long = whole_long } }
+          record { answer = given (took w (λ a s. s)).what; is_given = j; so = record { answer = rw yes (ap Ok long); stands = rw yes stands; long = whole_long } }
+
+      pub by_write : {r : Result ℕ Uncopied} → r ≡ ok_or q NoRoom → CopiedSo limits text room r (front ++ drop most room)
+      by_write e = rw e (by q refl)
+        where
+          by : (x : Option ℕ) → q ≡ x → CopiedSo limits text room (ok_or x NoRoom) (front ++ drop most room)
+          by None h = by_no_room h
+          by (Some n) h = by_copy n h
 
 -- the answer's length is that of the copy's bytes
-length_told : (limits : Limits) (text : List ℕ) (room : ℕ) (a : A.Answer Accepted) → copied_length (tidied limits text room a) ≡ length (bytes limits text room a)
-unfolding tidied bytes copied_length
+length_told : (limits : Limits) (text : List ℕ) (room : ℕ) (a : A.Answer Accepted) → result_unwrap_or (tidied limits text room a) 0 ≡ length (bytes limits text room a)
+unfolding tidied bytes
 length_told limits text room (given a) = by (longer limits text room)
   where
-    by : (t : Bool) → copied_length (cond t NoRoom (Copied (length (tidy_of limits.sizes text)))) ≡ length (cond t [] (tidy_of limits.sizes text))
+    by : (t : Bool) → result_unwrap_or (cond t (Err NoRoom) (Ok (length (tidy_of limits.sizes text)))) 0 ≡ length (cond t [] (tidy_of limits.sizes text))
     by true = refl
     by false = refl
 length_told limits text room (refused why p) = refl
 
 -- past the copy all is cleared
-pub then_zeros : (limits : Limits) (text room : List ℕ) {r : Tidied} {room' room'' : List ℕ} {n : ℕ} → CopiedSo limits text room r room' → n ≡ copied_length r → room'' ≡ take n room' ++ replicate (length room' - n) 0 → Tidy limits text (length room) r room''
+pub then_zeros : (limits : Limits) (text room : List ℕ) {r : Result ℕ Uncopied} {room' room'' : List ℕ} {n : ℕ} → CopiedSo limits text room r room' → n ≡ result_unwrap_or r 0 → room'' ≡ take n room' ++ replicate (length room' - n) 0 → Tidy limits text (length room) r room''
 then_zeros limits text room {n} w e z =
     with_answer w (λ a _ s.
-    let long : n ≡ length (bytes limits text (length room) a) = e ∙ ap copied_length s.answer ∙ length_told limits text (length room) a in
+    let long : n ≡ length (bytes limits text (length room) a) = e ∙ ap (λ (x : Result ℕ Uncopied). result_unwrap_or x 0) s.answer ∙ length_told limits text (length room) a in
     record { answer = s.answer; holds = z ∙ rw (e, s.stands, ← e, long, s.long) })

@@ -5,7 +5,6 @@ use mathlib.Core.List.{List, [], ◌∷◌, ◌++◌, map}
 use mathlib.Core.Bool.{Bool, true, false, ◌||◌}
 use borrow.Author.Tests.{ltb-false}
 use Prim.Native.Nat.{ℕ, ◌+◌, ◌≤◌}
-use native.Mathlib.Omega.{arith}
 use lib.Dec.{ltb}
 use lib.ListN.{length}
 use Rattle.limits.specs.Limits.{Limits, Sizes}
@@ -34,10 +33,10 @@ use Rattle.tidy.proofs.Outcomes.{lexemes_of, tidy_is}
 
 after_space_beside : (p : ℕ) (ws : List Lexeme) (ls : List Placed) → whats ls ≡ ws ++ fixed end ∷ [] → Aligned ls (set_out_after p ws)
 unfolding whats set_out_after
-after_space_beside p [] [] e = let z : ◌≡◌ {A = ℕ} 0 1 = cc in absurd (omega arith)
+after_space_beside p [] [] e = cc
 after_space_beside p [] (l ∷ []) e = let h : l.what ≡ fixed end = cc in ap (at_place p) (sym h) beside both_end
-after_space_beside p [] (l ∷ m ∷ ls) e = let z : ◌≡◌ {A = ℕ} 0 1 = cc in absurd (omega arith)
-after_space_beside p (w ∷ ws) [] e = let z : ◌≡◌ {A = ℕ} 0 1 = cc in absurd (omega arith)
+after_space_beside p [] (l ∷ m ∷ ls) e = cc
+after_space_beside p (w ∷ ws) [] e = cc
 after_space_beside p (w ∷ ws) (l ∷ ls) e =
     let h : l.what ≡ w = cc in
     let t : whats ls ≡ ws ++ fixed end ∷ [] = cc in
@@ -46,7 +45,7 @@ after_space_beside p (w ∷ ws) (l ∷ ls) e =
 all_beside : (ws : List Lexeme) (ls : List Placed) → whats ls ≡ ws ++ fixed end ∷ [] → Aligned ls (set_out ws)
 unfolding whats set_out set_out_after
 all_beside [] ls e = after_space_beside 0 [] ls e
-all_beside (w ∷ ws) [] e = let z : ◌≡◌ {A = ℕ} 0 1 = cc in absurd (omega arith)
+all_beside (w ∷ ws) [] e = cc
 all_beside (w ∷ ws) (l ∷ ls) e =
     let h : l.what ≡ w = cc in
     let t : whats ls ≡ ws ++ fixed end ∷ [] = cc in
@@ -55,7 +54,7 @@ all_beside (w ∷ ws) (l ∷ ls) e =
 -- ---- what is promised
 
 second : (x y : Bool) → (x || y) ≡ false → y ≡ false
-second true y h = let z : ◌≡◌ {A = ℕ} 0 1 = cc in absurd (omega arith)
+second true y h = cc
 second false y h = h
 
 -- the places of the copy, as a function of the text's

@@ -11,21 +11,19 @@ use lib.ListN.{length, drop, length-append, length-drop}
 use lib.Seq.{length-take-le}
 use Rattle.base.specs.Bytes.{value}
 use Rattle.base.specs.inner.Parts.{part}
-use Rattle.base.specs.declared.Refusal.{Refusal}
 use Rattle.lexeme.specs.Lexemes as lexemes
 use Rattle.lexeme.specs.Lexemes.{Placed, next}
 use Rattle.lexeme.specs.declared.Kind.{Kind}
 use Rattle.lexeme.specs.declared.Kind.TheVariants as kind
 use Rattle.lexeme.specs.declared.Lexeme.{Lexeme}
-use Rattle.lexeme.specs.declared.Found.TheVariants.{Is, Refused}
 use Rattle.lexeme.specs.inner.Coded.{coded, placed, what_of, told, Ends, Number, Ahead, last, more}
 use Rattle.lexeme.proofs.Ahead.{From}
 use Rattle.lexeme.proofs.Places.{next_stands}
 use Rattle.sentence.specs.Grammar.{whats}
 use Rattle.numbers.specs.Numbers.{decimal}
 use Rattle.numbers.proofs.Digits.{some_digits}
-use Rattle.rooms.specs.declared.Printed.{Printed}
-use Rattle.rooms.specs.declared.Printed.TheVariants.{UpTo, DoesNotFit}
+use Rattle.std.specs.Prelude.{Option, Some, None, Ok}
+use Rattle.std.specs.Result.{result_ok}
 use Rattle.spelling.specs.Spelling.{written, after_space, spaced, without_end, tidy_text}
 use Rattle.spelling.proofs.Inverse.{as_it_stands, literal_stands}
 use Rattle.tidy.specs.inner.Copies.{without_zeros, of_kind, copied, gap, Puts}
@@ -34,7 +32,7 @@ use Rattle.tidy.proofs.Puts.{put_up_to, puts_none, puts_stop, puts_then}
 
 -- ---- the bytes of a lexeme
 
-module _ (text : List ℕ) (at : ℕ) (l : Lexeme) (within : at ≤ length text) (is : Is l ≡ coded (next text at)) (goes_on : Ends l → ⊥) where
+module _ (text : List ℕ) (at : ℕ) (l : Lexeme) (within : at ≤ length text) (is : Ok l ≡ coded (next text at)) (goes_on : Ends l → ⊥) where
   abbrev own : List ℕ
   own = part text l.place l.end
 
@@ -58,10 +56,10 @@ module _ (text : List ℕ) (at : ℕ) (l : Lexeme) (within : at ≤ length text)
           let worth : value 0 own ≡ v = omega (arith, d.1, number v e) in
           let w : without_zeros own ≡ decimal (pos v) = zeros_decimal own d.0 own_some ∙ ap (λ (n : ℕ). decimal (pos n)) worth in
           (w, rw w (unfold decimal in some_digits v))
-      by kind.Name e = (no_literal kind.Name e (λ v h. let z : ◌≡◌ {A = ℕ} 0 1 = cc in omega arith), own_some)
-      by kind.Class e = (no_literal kind.Class e (λ v h. let z : ◌≡◌ {A = ℕ} 0 1 = cc in omega arith), own_some)
-      by kind.Str e = (no_literal kind.Str e (λ v h. let z : ◌≡◌ {A = ℕ} 0 1 = cc in omega arith), own_some)
-      by (kind.Fixed f) e = (no_literal (kind.Fixed f) e (λ v h. let z : ◌≡◌ {A = ℕ} 0 1 = cc in omega arith), own_some)
+      by kind.Name e = (no_literal kind.Name e (λ v h. cc), own_some)
+      by kind.Class e = (no_literal kind.Class e (λ v h. cc), own_some)
+      by kind.Str e = (no_literal kind.Str e (λ v h. cc), own_some)
+      by (kind.Fixed f) e = (no_literal (kind.Fixed f) e (λ v h. cc), own_some)
 
 -- ---- the lexemes that are still to come
 
@@ -118,7 +116,7 @@ module _ (text before : List ℕ) (all : List Placed) where
     ls : List Placed
     from : From text at ls
     done : List ℕ
-    puts : Puts done before 0 (UpTo n) room
+    puts : Puts done before 0 (Some n) room
     rest : done ++ to_come n (words ls) ≡ tidy_text all
 
   pub starts : From text 0 all → Copying 0 0 before
@@ -127,14 +125,14 @@ module _ (text before : List ℕ) (all : List Placed) where
 
   module _ {at n : ℕ} {room : List ℕ} (c : Copying at n room) where
     -- what stands next is a lexeme
-    pub never_refused : (why : Refusal) (p : ℕ) → Refused why p ≡ coded (next text at) → ⊥
-    never_refused why p e = let z : ◌≡◌ {A = ℕ} 0 1 = cc c.from.1 in omega arith
+    pub never_refused : None ≡ result_ok (coded (next text at)) → ⊥
+    never_refused e = let h = rw (← c.from.1) at e in cc
 
-    module _ (l : Lexeme) (is : Is l ≡ coded (next text at)) where
+    module _ (l : Lexeme) (is : Ok l ≡ coded (next text at)) where
       ahead : Ahead text l c.ls
       ahead = let e : c.from.0 ≡ l = cc c.from.1 in subst (λ (x : Lexeme). Ahead text x c.ls) e c.from.2
 
-      pub ended : Ends l → Puts (tidy_text all) before 0 (UpTo n) room
+      pub ended : Ends l → Puts (tidy_text all) before 0 (Some n) room
       ended ends =
           let none : to_come n (words c.ls) ≡ [] = rw (nothing_more text ahead ends) (come_out n) in
           let all_of_it : c.done ≡ tidy_text all = sym (append-nil c.done) ∙ rw (← none) c.rest in
@@ -154,14 +152,14 @@ module _ (text before : List ℕ) (all : List Placed) where
             let x = after_space (words o.later) in
             append_assoc c.done put_here x ∙ ap (λ (z : List ℕ). c.done ++ z) (append_assoc (gap n) (copied text l) x ∙ rw w (sym (come_on n (told text l) (words o.later)) ∙ ap (to_come n) (sym o.split))) ∙ c.rest
 
-        module _ {r : Printed} {room' : List ℕ} (p : Puts put_here room n r room') where
+        module _ {r : Option ℕ} {room' : List ℕ} (p : Puts put_here room n r room') where
           both : Puts (c.done ++ put_here) before 0 r room'
           both = puts_then c.puts refl p
 
-          pub stopped : r ≡ DoesNotFit → Puts (tidy_text all) before 0 r room'
+          pub stopped : r ≡ None → Puts (tidy_text all) before 0 r room'
           stopped e = rw (← split) (puts_stop (after_space (words o.later)) both e)
 
-          pub goes : (m : ℕ) → r ≡ UpTo m → Copying l.end m room'
+          pub goes : (m : ℕ) → r ≡ Some m → Copying l.end m room'
           goes m e =
               let some : m ≡ 0 → ⊥ = λ z. omega (arith, (put_up_to m p e).1, length-append (gap n) (copied text l), (copied_written text at l within is goes_on o.number).1) in
               record { ls = o.later; from = o.from; done = c.done ++ put_here; puts = rw (← e) both; rest = rw (ne_eqb m 0 some) split }

@@ -1,14 +1,18 @@
--- Laws of a digit word without needless zeros, each at the place where the loop stands. Assumes nothing.
+-- Laws of a digit word without needless zeros. Assumes nothing.
+use Rattle.std.proofs.Common.{not, take, ◌-◌, one-add, length-take}
+use Rattle.std.proofs.Math.Seq.{drop-nil}
+use Rattle.std.specs.Prelude.{Option, unwrap_or, position}
+use Rattle.std.specs.List.{position_or_len}
+use Rattle.std.proofs.lemmas.Grind.{common_steps}
+use Rattle.std.proofs.lemmas.List.Sums.{prefix_len-le-length}
 use mathlib.Core.Path.{◌≡◌, refl, sym, ap, ◌∙◌}
 use mathlib.Core.List.{List, [], ◌∷◌}
 use mathlib.Core.Bool.{Bool, true, false, ◌&&◌}
-use Prim.Native.Nat.{ℕ, suc, ◌+◌, ◌≤◌, ◌<◌}
-use native.Mathlib.Numerals.{add-one}
+use Prim.Native.Nat.{ℕ, ◌<◌}
 use native.Mathlib.Omega.{arith}
-use borrow.Author.Tests.{lt-ltb, ltb-true, ltb-false, eq-eqb, ne_eqb, eqb-true, eqb-false}
+use borrow.Author.Tests.{lt-ltb, eq-eqb, ne_eqb, eqb-true, eqb-false}
 use lib.Dec.{eqb, ltb}
-use lib.ListN.{length, get_or, drop, length-drop, drop_of_length-le}
-use lib.Seq.{drop-cons}
+use lib.ListN.{length, drop}
 use lib.IntN.{pos}
 use Rattle.base.specs.Bytes.{digit, all, value}
 use Rattle.numbers.specs.Numbers.{decimal}
@@ -37,22 +41,28 @@ last_needed b = by (eqb b 48)
     by true = refl
     by false = refl
 
-module _ (w : List ℕ) (i : ℕ) where
-  pub zeros_on : i + 1 < length w → get_or w i 0 ≡ 48 → without_zeros (drop (i + 1) w) ≡ without_zeros (drop i w)
-  zeros_on h e = rw (drop-cons w i 0 (omega arith), add-one) (sym (needless (get_or w i 0) (drop (suc i) w) e (omega (arith, length-drop (suc i) w))))
+abbrev pub no_zero : ℕ → Bool
+no_zero b = not (eqb b 48)
 
-  pub zeros_stop : i < length w → (get_or w i 0 ≡ 48 → ⊥) → drop i w ≡ without_zeros (drop i w)
-  zeros_stop h n = rw (drop-cons w i 0) (sym (needed (get_or w i 0) (drop (suc i) w) n))
+-- the bytes before the first that is no zero, of all but the last, are those that are left out
+zeros_before : (b : ℕ) (w : List ℕ) → drop (position_or_len no_zero (take (length w) (b ∷ w))) (b ∷ w) ≡ without_zeros (b ∷ w)
+zeros_before b [] = sym (last_needed b)
+zeros_before b (d ∷ w) = by (zeros_before d w) (eqb b 48) refl
+  where
+    by : drop (position_or_len no_zero (take (length w) (d ∷ w))) (d ∷ w) ≡ without_zeros (d ∷ w) → (t : Bool) → eqb b 48 ≡ t → drop (position_or_len no_zero (b ∷ take (length w) (d ∷ w))) (b ∷ d ∷ w) ≡ without_zeros (b ∷ d ∷ w)
+    by on true e = rw (e, one-add) (on ∙ sym (needless b (d ∷ w) (eqb-true b 48 e) (omega arith)))
+    by on false e = rw e (sym (needed b (d ∷ w) (eqb-false b 48 e)))
 
-  pub zeros_out : length w ≤ i + 1 → drop i w ≡ without_zeros (drop i w)
-  zeros_out h = by (ltb i (length w)) refl
-    where
-      by : (t : Bool) → ltb i (length w) ≡ t → drop i w ≡ without_zeros (drop i w)
-      by true e =
-          let k : i < length w = ltb-true i (length w) e in
-          let none : drop (suc i) w ≡ [] = drop_of_length-le w {i = suc i} (omega arith) in
-          rw (drop-cons w i 0, none) (sym (last_needed (get_or w i 0)))
-      by false e = rw (drop_of_length-le w (ltb-false i (length w) e)) (unfold without_zeros in refl)
+-- the place of that byte, or of the last where there is none
+first_or_last : (xs : List ℕ) (last : ℕ) → last ≡ length xs → unwrap_or (position no_zero xs) last ≡ position_or_len no_zero xs
+first_or_last xs last e = let k = prefix_len-le-length (λ x. not (no_zero x)) xs in grind (arith, common_steps)
+
+pub zeros_from : (w : List ℕ) (last from : ℕ) (r : Option ℕ) → last ≡ length w - 1 → r ≡ position no_zero (take last w) → from ≡ unwrap_or r last → drop from w ≡ without_zeros w
+zeros_from [] last from r l e f = simp drop-nil (unfold without_zeros in refl)
+zeros_from (b ∷ w) last from r l e f =
+    let long : last ≡ length w = omega arith in
+    let is = f ∙ ap (λ (x : Option ℕ). unwrap_or x last) e ∙ first_or_last (take last (b ∷ w)) last (omega (arith, length-take last (b ∷ w))) in
+    rw is (rw long (zeros_before b w))
 
 -- a digit word without needless zeros is the decimal of its value
 pub zeros_decimal : (w : List ℕ) → all digit w ≡ true → 0 < length w → without_zeros w ≡ decimal (pos (value 0 w))

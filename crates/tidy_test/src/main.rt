@@ -11,7 +11,7 @@ mod texts;
 
 // A text, in a room of its own or in one of so many bytes.
 fn tried(rt: &HostRuntime, text: &[u8], bytes: &[u8]) -> io::Result<()> {
-    if bytes.len() < 1 {
+    if bytes.is_empty() {
         return checks::all(rt, text);
     }
     checks::in_room(rt, text, cases::worth(bytes))
@@ -24,10 +24,7 @@ fn case(rt: &HostRuntime, line: &[u8]) -> io::Result<()> {
 }
 
 fn is_heading(line: &[u8]) -> bool {
-    if line.len() < 1 {
-        return false;
-    }
-    line[0] == b'#'
+    line.first() == Some(&b'#')
 }
 
 fn case_or_heading(rt: &HostRuntime, line: &[u8]) -> io::Result<()> {
@@ -39,11 +36,8 @@ fn case_or_heading(rt: &HostRuntime, line: &[u8]) -> io::Result<()> {
 }
 
 fn each(rt: &HostRuntime, all: &[u8]) -> io::Result<()> {
-    let n = cases::count(all, b'\n');
-    let mut i = 0;
-    while i < n {
+    for i in 0..cases::count(all, b'\n') {
         case_or_heading(rt, rows::nth(all, b'\n', i))?;
-        i += 1;
     }
     Ok(())
 }

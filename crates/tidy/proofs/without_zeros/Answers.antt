@@ -1,30 +1,14 @@
--- `tidy::without_zeros` meets its contract: the word from i on, without needless zeros, is the whole word without them. Assumes nothing.
-use mathlib.Core.Path.{◌≡◌, refl, ◌∙◌}
-use Prim.Native.Nat.{ℕ, ◌-◌, ◌<◌}
-use native.Mathlib.Omega.{arith}
-use mathlib.Core.List.{List}
-use lib.ListN.{length, take, drop, length-drop}
-use lib.Seq.{take_all}
-use Rattle.tidy.specs.inner.Copies.{without_zeros}
-use Rattle.tidy.proofs.Zeros.{zeros_on, zeros_stop, zeros_out}
+-- `tidy::without_zeros` meets its contract. Assumes nothing.
+use Rattle.std.proofs.Common.{◌∙◌, rules, take, arith, length-drop, take_all}
+use Rattle.std.proofs.lemmas.Iterator.{YieldsList-from_slice}
+use Rattle.std.proofs.lemmas.Iterator.Search.{position_from_yields_List}
+use borrow.Author.Tests.{tests}
+use Rattle.tidy.proofs.Zeros.{no_zero, zeros_from}
 use Rattle.tidy.proofs.without_zeros.Goals as goal
 
--- the part from i on, where no more is needless
-whole : (word : List ℕ) (i : ℕ) → drop i word ≡ without_zeros (drop i word) → without_zeros (drop i word) ≡ without_zeros word → take (length word - i) (drop i word) ≡ without_zeros word
-whole word i h e = take_all (length word - i) (drop i word) (omega (arith, length-drop i word)) ∙ h ∙ e
-
-pub loop-i-init : goal.loop-i-init
-loop-i-init c = (omega arith, refl)
-
-pub returns-then-word-i-ne48 : goal.returns-then-word-i-ne48
-returns-then-word-i-ne48 c = let h : c.loop-i.i < length c.args.word.now = omega arith in
-    whole _ _ (zeros_stop _ _ h c.if-word-i-ne48.true) c.loop-i.invariant.1
-
-pub loop-i-preserved : goal.loop-i-preserved
-loop-i-preserved c = (omega arith, zeros_on _ _ c.loop-i-test.true c.if-word-i-ne48.false ∙ c.loop-i.invariant.1)
-
 pub returns : goal.returns
-returns c = whole _ _ (zeros_out _ _ c.loop-i-test.false) c.loop-i.invariant.1
-
-pub loop-i-smaller : goal.loop-i-smaller
-loop-i-smaller c = omega arith
+returns c =
+    let word = c.args.word.now in
+    let last = c.saturating_sub-last.result in
+    let at = position_from_yields_List no_zero _ _ c.position.result c.position.ensures.ran (YieldsList-from_slice (take last word) c.iter.ensures.rest) (λ x b q k. search (rules, tests)) in
+    take_all _ _ (omega (arith, length-drop c.unwrap_or-from.result word)) ∙ zeros_from word last _ _ c.saturating_sub-last.ensures at c.unwrap_or-from.ensures
