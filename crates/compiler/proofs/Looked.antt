@@ -1,7 +1,7 @@
 -- Which lexeme stands ahead, by its kind and its number. Assumes nothing.
 use mathlib.Core.Path.{◌≡◌, refl, sym, ap, subst, ◌∙◌}
 use mathlib.Core.List.{List}
-use mathlib.Core.Bool.{Bool, true, false, not}
+use mathlib.Core.Bool.{Bool, true, false}
 use Prim.Native.Nat.{ℕ, ◌+◌, ◌-◌}
 use native.Mathlib.Omega.{arith}
 use lib.Dec.{T}
@@ -20,15 +20,6 @@ use Rattle.compiler.specs.inner.Walks.{name_of}
 -- the string of the code's lexeme l
 unfoldable pub quoted_of : List ℕ → code.Lexeme → Quoted
 quoted_of text l = record { inside = part text (l.place + 1) (l.end - 1); place = l.place + 1 }
-
--- a flag that is turned round
-pub flag_off : (b : Bool) → not b ≡ true → b ≡ false
-flag_off true e = sym e
-flag_off false e = refl
-
-pub flag_on : (b : Bool) → not b ≡ false → b ≡ true
-flag_on true e = refl
-flag_on false e = sym e
 
 -- ---- a lexeme that is not the end
 

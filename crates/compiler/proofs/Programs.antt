@@ -46,6 +46,9 @@ pub record Begun (text names : List ℕ) (place : ℕ) (x : Walk) : Type 0 where
   pub first : Past text (start_at place) start
   pub its_DO : Crossed text start (code_of DO) x
 
+pub begun : {text names : List ℕ} {place : ℕ} {w x : Walk} → SetOut text names place → Past text (start_at place) w → Crossed text w (code_of DO) x → Begun text names place x
+begun o first d = record { set_out = o; start = _; first = first; its_DO = d }
+
 module _ {text names : List ℕ} {place : ℕ} {x : Walk} (b : Begun text names place x) (limit : ℕ) where
   -- the Command may be read
   pub begun_ready : limit ≤ 1000000 → Ready text names x limit

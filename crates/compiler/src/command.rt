@@ -5,7 +5,7 @@ ghost use Rattle.compiler.specs.inner.Steps.{moved_to, printing_number, has_body
 ghost use Rattle.compiler.specs.inner.Walks.{Ready, First, ReadsCommand, ReadsPrint, ReadsString, ReadsDeclare, ReadsRead, ReadsAssign, ReadsBody, ReadsGuarded, ReadsBlock};
 
 use crate::walk::{Read, Walk};
-use crate::{expression, naming, walk};
+use crate::{expression, naming};
 use base::{Refusal, Refused};
 use instruction::operations;
 use lexeme::{Kind, Lexeme, fixed};
@@ -24,10 +24,11 @@ fn print_int(
     ensures { ReadsPrint text.now names.now table.old w allow result names.now table.new }
 {
     let r = expression::expression(allow, text, names, table, w)?;
-    Ok(walk::followed(table, r, operations::PRINT_INT, 0))
+    Ok(r.followed(table, operations::PRINT_INT, 0))
 }
 
 // The operation of PRINTLNS, which prints a line, or of PRINTS.
+#[tactic(auto, unfolding(crate::specs::inner::Steps::printing_number, instruction::specs::Instructions::encode, instruction::specs::Instructions::opcode))]
 fn printing(line: bool) -> i32
     ensures { result ≡ printing_number line }
 {
@@ -51,15 +52,12 @@ fn print_string(
     ensures { ReadsString line text.now names.now table.old w allow result names.now table.new }
 {
     let Kind::Str = w.next.kind else {
-        return Err(Refused {
-            why: Refusal::NoProgram,
-            place: w.next.place,
-        });
+        return Err(w.refused_ahead(Refusal::NoProgram));
     };
     let s = (w.next.place + 1) as i32;
-    let x = walk::emitted(table, w, printing(line), s);
+    let x = w.emitted(table, printing(line), s);
     Ok(Read {
-        walk: walk::advance(text, x)?,
+        walk: x.advance(text)?,
         need: 0,
     })
 }
@@ -76,16 +74,13 @@ fn declare(
     ensures { ReadsDeclare text.now names.old table.old w allow result names.new table.new }
 {
     let Kind::Name = w.next.kind else {
-        return Err(Refused {
-            why: Refusal::NoProgram,
-            place: w.next.place,
-        });
+        return Err(w.refused_ahead(Refusal::NoProgram));
     };
     let s = scopes::counts(names);
-    let x = walk::emitted(table, w, operations::PUSH_INT, 0);
-    let y = walk::emitted(table, x, operations::STORE_STACK, s.next_cell as i32);
+    let x = w.emitted(table, operations::PUSH_INT, 0);
+    let y = x.emitted(table, operations::STORE_STACK, s.next_cell as i32);
     Ok(Read {
-        walk: walk::advance(text, naming::declared(names, y))?,
+        walk: naming::declared(names, y).advance(text)?,
         need: 1,
     })
 }
@@ -102,15 +97,12 @@ fn read(
     ensures { ReadsRead text.now names.now table.old w allow result names.now table.new }
 {
     let Kind::Name = w.next.kind else {
-        return Err(Refused {
-            why: Refusal::NoProgram,
-            place: w.next.place,
-        });
+        return Err(w.refused_ahead(Refusal::NoProgram));
     };
-    let x = walk::emitted(table, w, operations::READ, 0);
+    let x = w.emitted(table, operations::READ, 0);
     let y = naming::used(text, names, table, x, operations::STORE_STACK);
     Ok(Read {
-        walk: walk::advance(text, y)?,
+        walk: y.advance(text)?,
         need: 1,
     })
 }
@@ -128,14 +120,15 @@ fn assign(
     ensures { ReadsAssign l text.now names.now table.old w allow result names.now table.new }
 {
     let c = scopes::look_up(text, names, l.place, l.end);
-    let x = walk::expect(text, naming::noted(w, c, l), b':')?;
+    let x = naming::noted(w, c, l).expect(text, b':')?;
     let r = expression::expression(allow, text, names, table, x)?;
-    Ok(walk::followed(table, r, operations::STORE_STACK, naming::operand(c)))
+    Ok(r.followed(table, operations::STORE_STACK, naming::operand(c)))
 }
 
 // ---- around the body of an IF or a WHILE
 
 // The number of DO, which stands before a body that is done again, or of THEN.
+#[tactic(auto, unfolding(crate::specs::inner::Steps::before_body, lexeme::specs::inner::Coded::code_of))]
 fn before_body(again: bool) -> u8
     ensures { result ≡ code_of (before_body again) }
 {
@@ -143,12 +136,13 @@ fn before_body(again: bool) -> u8
 }
 
 // After the body: WHILE jumps back to its condition.
+#[tactic(auto, unfolding(crate::specs::inner::Steps::ended_walk, crate::specs::inner::Steps::ended_table, instruction::specs::Instructions::encode))]
 fn ended(table: &mut [i32], w: Walk, again: bool, back: usize) -> Walk
     requires { (w.code < 10000000) × (back < 10000000) }
     ensures { (result ≡ ended_walk again w) × (table.new ≡ ended_table again table.old w.code back) }
 {
     if again {
-        return walk::emitted(table, w, operations::JUMP, back as i32);
+        return w.emitted(table, operations::JUMP, back as i32);
     }
     w
 }
@@ -173,7 +167,7 @@ fn without_body(
     }
     match lexeme::fixed_of(l.kind) {
         fixed::ERROR => Ok(Read {
-            walk: walk::emitted(table, w, operations::HALT, 1),
+            walk: w.emitted(table, operations::HALT, 1),
             need: 0,
         }),
         fixed::INT => declare(allow, text, names, table, w),
@@ -189,13 +183,11 @@ fn without_body(
 }
 
 // Whether a command that begins so has a body.
+#[tactic(auto, unfolding(crate::specs::inner::Steps::has_body, lexeme::specs::inner::Coded::code_of))]
 fn has_body(f: u8) -> bool
     ensures { result ≡ has_body f }
 {
-    match f {
-        fixed::IF | fixed::WHILE | b'{' => true,
-        _ => false,
-    }
+    matches!(f, fixed::IF | fixed::WHILE | b'{')
 }
 
 #[cycle(block_body_command_guarded)]
@@ -209,16 +201,13 @@ pub fn command(
     requires { Ready text.now names.old w allow }
     ensures { ReadsCommand text.now names.old table.old w allow result names.new table.new }
 {
-    let f = walk::fixed_ahead(w);
-    let x = walk::advance(text, w)?;
+    let f = w.fixed_ahead();
+    let x = w.advance(text)?;
     if !has_body(f) {
         return without_body(allow, text, names, table, x, w.next);
     }
     if allow == 0 {
-        return Err(Refused {
-            why: Refusal::TooDeep,
-            place: w.next.place,
-        });
+        return Err(w.refused_ahead(Refusal::TooDeep));
     }
     if f == b'{' {
         return block(allow - 1, text, names, table, x);
@@ -240,8 +229,8 @@ fn guarded(
     ensures { ReadsGuarded again text.now names.old table.old w allow result names.new table.new }
 {
     let test = expression::condition(allow, text, names, table, w)?;
-    let x = walk::expect(text, test.walk, before_body(again))?;
-    let inside = body(allow, text, names, table, walk::skipped(x))?;
+    let x = test.walk.expect(text, before_body(again))?;
+    let inside = body(allow, text, names, table, x.skipped())?;
     let end = ended(table, inside.walk, again, w.code);
     tables::put_jump_if_false(table, test.walk.code, end.code);
     Ok(Read {
@@ -284,7 +273,7 @@ fn block(
     let before = scopes::counts(names);
     scopes::open(names);
     let mut so_far = command(allow, text, names, table, w)?;
-    while walk::fixed_ahead(so_far.walk) != b'}' {
+    while so_far.walk.fixed_ahead() != b'}' {
         let r = command(allow, text, names, table, so_far.walk)?;
         so_far = Read {
             walk: r.walk,
@@ -293,7 +282,7 @@ fn block(
     }
     scopes::close(names, before);
     Ok(Read {
-        walk: walk::advance(text, so_far.walk)?,
+        walk: so_far.walk.advance(text)?,
         need: so_far.need,
     })
 }

@@ -5,7 +5,7 @@ ghost use Rattle.compiler.specs.inner.Steps.{NoOperand, Fits, joined_walk, opera
 ghost use Rattle.compiler.specs.inner.Walks.{Ready, ReadsFactor, ReadsTerm, ReadsFirstTerm, ReadsExpression, ReadsCondition, ReadsComparison};
 
 use crate::walk::{Read, Walk};
-use crate::{naming, operator, walk};
+use crate::{naming, operator};
 use base::{Refusal, Refused};
 use instruction::operations;
 use lexeme::{Kind, fixed};
@@ -23,16 +23,16 @@ fn factor(
 {
     match w.next.kind {
         Kind::Literal(v) => {
-            let x = walk::emitted(table, w, operations::PUSH_INT, tables::operand(v as usize));
+            let x = w.emitted(table, operations::PUSH_INT, tables::operand(v as usize));
             Ok(Read {
-                walk: walk::advance(text, x)?,
+                walk: x.advance(text)?,
                 need: 1,
             })
         }
         Kind::Name => {
             let x = naming::used(text, names, table, w, operations::LOAD_STACK);
             Ok(Read {
-                walk: walk::advance(text, x)?,
+                walk: x.advance(text)?,
                 need: 1,
             })
         }
@@ -53,22 +53,16 @@ fn bracket(
     requires no_operand { NoOperand w.next.kind }
     ensures { ReadsFactor text.now names.now table.old w allow result names.now table.new }
 {
-    if walk::fixed_ahead(w) != b'(' {
-        return Err(Refused {
-            why: Refusal::NoProgram,
-            place: w.next.place,
-        });
+    if w.fixed_ahead() != b'(' {
+        return Err(w.refused_ahead(Refusal::NoProgram));
     }
     if allow == 0 {
-        return Err(Refused {
-            why: Refusal::TooDeep,
-            place: w.next.place,
-        });
+        return Err(w.refused_ahead(Refusal::TooDeep));
     }
-    let x = walk::advance(text, w)?;
+    let x = w.advance(text)?;
     let r = expression(allow - 1, text, names, table, x)?;
     Ok(Read {
-        walk: walk::expect(text, r.walk, b')')?,
+        walk: r.walk.expect(text, b')')?,
         need: r.need,
     })
 }
@@ -80,11 +74,12 @@ fn joined(table: &mut [i32], f: u8, left: usize, right: Read) -> Read
     ensures table_after { table.new ≡ put table.old right.walk.code (operation_number f ∷ pos 0 ∷ []) }
 {
     Read {
-        walk: walk::emitted(table, right.walk, operator::operation(f), 0),
+        walk: right.walk.emitted(table, operator::operation(f), 0),
         need: tables::two_sided_need(left, right.need),
     }
 }
 
+// A loop of its own beside `expression`'s: one for both would call its operator and its reader through closures, inside the cycle of calls that they stand in.
 #[cycle(bracket_expression_factor_first_term_term)]
 fn term(
     allow: usize,
@@ -98,11 +93,11 @@ fn term(
 {
     let mut so_far = factor(allow, text, names, table, w)?;
     loop {
-        let f = walk::fixed_ahead(so_far.walk);
+        let f = so_far.walk.fixed_ahead();
         if !operator::is_mul(f) {
             return Ok(so_far);
         }
-        let x = walk::advance(text, so_far.walk)?;
+        let x = so_far.walk.advance(text)?;
         let right = factor(allow, text, names, table, x)?;
         so_far = joined(table, f, so_far.need, right);
     }
@@ -120,14 +115,14 @@ fn first_term(
     requires { Ready text.now names.now w allow }
     ensures { ReadsFirstTerm text.now names.now table.old w allow result names.now table.new }
 {
-    let f = walk::fixed_ahead(w);
+    let f = w.fixed_ahead();
     if !operator::is_sign(f) {
         return term(allow, text, names, table, w);
     }
-    let x = walk::advance(text, w)?;
+    let x = w.advance(text)?;
     let r = term(allow, text, names, table, x)?;
     if f == b'-' {
-        return Ok(walk::followed(table, r, operations::NEGATE, 0));
+        return Ok(r.followed(table, operations::NEGATE, 0));
     }
     Ok(r)
 }
@@ -145,11 +140,11 @@ pub fn expression(
 {
     let mut so_far = first_term(allow, text, names, table, w)?;
     loop {
-        let f = walk::fixed_ahead(so_far.walk);
+        let f = so_far.walk.fixed_ahead();
         if !operator::is_sign(f) {
             return Ok(so_far);
         }
-        let x = walk::advance(text, so_far.walk)?;
+        let x = so_far.walk.advance(text)?;
         let right = term(allow, text, names, table, x)?;
         so_far = joined(table, f, so_far.need, right);
     }
@@ -165,18 +160,15 @@ pub fn condition(
     requires { Ready text.now names.now w allow }
     ensures { ReadsCondition text.now names.now table.old w allow result names.now table.new }
 {
-    if walk::fixed_ahead(w) != fixed::NOT {
+    if w.fixed_ahead() != fixed::NOT {
         return comparison(allow, text, names, table, w);
     }
     if allow == 0 {
-        return Err(Refused {
-            why: Refusal::TooDeep,
-            place: w.next.place,
-        });
+        return Err(w.refused_ahead(Refusal::TooDeep));
     }
-    let x = walk::advance(text, w)?;
+    let x = w.advance(text)?;
     let r = condition(allow - 1, text, names, table, x)?;
-    Ok(walk::followed(table, r, operations::NOT, 0))
+    Ok(r.followed(table, operations::NOT, 0))
 }
 
 // An Expression, one relation, an Expression.
@@ -191,14 +183,11 @@ fn comparison(
     ensures { ReadsComparison text.now names.now table.old w allow result names.now table.new }
 {
     let left = expression(allow, text, names, table, w)?;
-    let f = walk::fixed_ahead(left.walk);
+    let f = left.walk.fixed_ahead();
     if !operator::is_rel(f) {
-        return Err(Refused {
-            why: Refusal::NoProgram,
-            place: left.walk.next.place,
-        });
+        return Err(left.walk.refused_ahead(Refusal::NoProgram));
     }
-    let x = walk::advance(text, left.walk)?;
+    let x = left.walk.advance(text)?;
     let right = expression(allow, text, names, table, x)?;
     Ok(joined(table, f, left.need, right))
 }

@@ -18,7 +18,7 @@ use base::{Refusal, Refused};
 use lexeme::fixed;
 use limits::Limits;
 use tables::Counts;
-use walk::Read;
+use walk::{Read, Walk};
 
 // DO, one Command, the end; the Command's code begins at a place.
 fn program(
@@ -30,14 +30,11 @@ fn program(
     requires { SetOut text.now names.old code }
     ensures { ReadsProgram Limits.NESTING text.now names.old table.old code result names.new table.new }
 {
-    let w = walk::advance(text, walk::start(code))?;
-    let x = walk::expect(text, w, fixed::DO)?;
+    let w = Walk::start(code).advance(text)?;
+    let x = w.expect(text, fixed::DO)?;
     let r = command::command(Limits::NESTING, text, names, table, x)?;
-    if walk::fixed_ahead(r.walk) != fixed::END {
-        return Err(Refused {
-            why: Refusal::NoProgram,
-            place: r.walk.next.place,
-        });
+    if r.walk.fixed_ahead() != fixed::END {
+        return Err(r.walk.refused_ahead(Refusal::NoProgram));
     }
     Ok(r)
 }
@@ -51,8 +48,7 @@ fn measured(text: &[u8], names: &mut [usize; NAMES]) -> Result<Counts, Refused>
     ensures { Measured Limits.NESTING Limits.DECLARATIONS Limits.INSTRUCTIONS text.now result }
 {
     scopes::start(names);
-    let mut none = [0i32; 1];
-    let r = program(text, names, &mut none, 0)?;
+    let r = program(text, names, &mut [], 0)?;
     let cells = scopes::counts(names).cells;
     tables::settled(cells, r.walk.code, cells + r.need, r.walk.fault)
 }

@@ -4,28 +4,26 @@ ghost use Rattle.tables.specs.inner.Tables.{put};
 ghost use Rattle.names.specs.inner.Held.{declared_in};
 ghost use Rattle.compiler.specs.inner.Steps.{one_instruction, cell_of, noted_walk, cell_number, declared_walk};
 
-use crate::walk;
 use crate::walk::Walk;
 use base::{Refusal, Refused};
 use lexeme::Lexeme;
 
 // The walk after a use of the name l.
+#[tactic(auto, unfolding(crate::specs::inner::Steps::noted_walk))]
 pub fn noted(w: Walk, c: Option<usize>, l: Lexeme) -> Walk
     ensures { result ≡ noted_walk c w l.place }
 {
     match c {
         Some(_) => w,
-        None => walk::faulted(
-            w,
-            Refused {
-                why: Refusal::Undeclared,
-                place: l.place,
-            },
-        ),
+        None => w.faulted(Refused {
+            why: Refusal::Undeclared,
+            place: l.place,
+        }),
     }
 }
 
 // A cell as an operand.
+#[tactic(auto, unfolding(crate::specs::inner::Steps::cell_number))]
 pub fn operand(c: Option<usize>) -> i32
     ensures { result ≡ pos (cell_number c) }
 {
@@ -41,10 +39,11 @@ pub fn used(text: &[u8], names: &[usize], table: &mut [i32], w: Walk, operation:
     ensures { (result ≡ one_instruction (noted_walk (cell_of text.now names.now w.next) w w.next.place)) × (table.new ≡ put table.old w.code (operation ∷ pos (cell_number (cell_of text.now names.now w.next)) ∷ [])) }
 {
     let c = scopes::look_up(text, names, w.next.place, w.next.end);
-    walk::emitted(table, noted(w, c, w.next), operation, operand(c))
+    noted(w, c, w.next).emitted(table, operation, operand(c))
 }
 
 // The name ahead declared, or refusal 7.
+#[tactic(auto, unfolding(crate::specs::inner::Steps::declared_walk))]
 pub fn declared(names: &mut [usize], w: Walk) -> Walk
     ensures value { result ≡ declared_walk names.old w }
     ensures names_after { names.new ≡ declared_in names.old w.next.place w.next.end }
@@ -52,11 +51,5 @@ pub fn declared(names: &mut [usize], w: Walk) -> Walk
     if scopes::declare(names, w.next.place, w.next.end) {
         return w;
     }
-    walk::faulted(
-        w,
-        Refused {
-            why: Refusal::TooManyDeclared,
-            place: w.next.place,
-        },
-    )
+    w.faulted(w.refused_ahead(Refusal::TooManyDeclared))
 }

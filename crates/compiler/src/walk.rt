@@ -18,6 +18,99 @@ pub struct Walk {
     pub fault: Option<Refused>,
 }
 
+impl Walk {
+    // Before a text, whose code begins at a place.
+    #[tactic(auto, unfolding(lexeme::specs::inner::Coded::code_of))]
+    pub fn start(code: usize) -> Walk
+        ensures { result ≡ start_at code }
+    {
+        Walk {
+            next: Lexeme {
+                kind: Kind::Fixed(fixed::END),
+                place: 0,
+                end: 0,
+            },
+            code,
+            fault: None,
+        }
+    }
+
+    // ---- instructions
+
+    // The walk with a place for one instruction more.
+    #[tactic(auto, unfolding(crate::specs::inner::Steps::one_instruction))]
+    pub fn skipped(self) -> Walk
+        requires { self.code < 10000000 }
+        ensures { result ≡ one_instruction self }
+    {
+        Walk {
+            code: self.code + 1,
+            ..self
+        }
+    }
+
+    // The walk with one instruction more.
+    pub fn emitted(self, table: &mut [i32], operation: i32, operand: i32) -> Walk
+        requires { self.code < 10000000 }
+        ensures { (result ≡ one_instruction self) × (table.new ≡ put table.old self.code (operation ∷ operand ∷ [])) }
+    {
+        tables::put(table, self.code, operation, operand);
+        self.skipped()
+    }
+
+    // ---- refusals
+
+    // A refusal at the lexeme ahead.
+    pub fn refused_ahead(self, why: Refusal) -> Refused
+        ensures { result ≡ record { why = why; place = self.next.place } }
+    {
+        Refused {
+            why,
+            place: self.next.place,
+        }
+    }
+
+    // The walk with a name's refusal, unless it had one.
+    #[tactic(auto, unfolding(crate::specs::inner::Steps::faulted_walk, crate::specs::inner::Steps::first_fault))]
+    pub fn faulted(self, refused: Refused) -> Walk
+        ensures { result ≡ faulted_walk self refused }
+    {
+        Walk {
+            fault: self.fault.or(Some(refused)),
+            ..self
+        }
+    }
+
+    // ---- the lexeme ahead
+
+    // The number of the fixed lexeme ahead; 255 is none.
+    pub fn fixed_ahead(self) -> u8
+        ensures { result ≡ fixed_number self.next.kind }
+    {
+        lexeme::fixed_of(self.next.kind)
+    }
+
+    // Past the lexeme ahead, if a lexeme follows it.
+    pub fn advance(self, text: &[u8]) -> Result<Walk, Refused>
+        requires { self.next.end ≤ length text.now }
+        ensures { Advances text.now self result }
+    {
+        let next = lexer::next(text, self.next.end)?;
+        Ok(Walk { next, ..self })
+    }
+
+    // Past one fixed lexeme, and no other.
+    pub fn expect(self, text: &[u8], fixed: u8) -> Result<Walk, Refused>
+        requires { self.next.end ≤ length text.now }
+        ensures { Expects text.now self fixed result }
+    {
+        if self.fixed_ahead() == fixed {
+            return self.advance(text);
+        }
+        Err(self.refused_ahead(Refusal::NoProgram))
+    }
+}
+
 // What was read of a construct: the walk after it, and its stack need.
 #[derive(Clone, Copy)]
 pub struct Read {
@@ -25,95 +118,15 @@ pub struct Read {
     pub need: usize,
 }
 
-// ---- instructions
-
-// The walk with a place for one instruction more.
-#[tactic(auto, unfolding(crate::specs::inner::Steps::one_instruction))]
-pub fn skipped(w: Walk) -> Walk
-    requires { w.code < 10000000 }
-    ensures { result ≡ one_instruction w }
-{
-    Walk {
-        code: w.code + 1,
-        ..w
+impl Read {
+    // With one instruction more.
+    pub fn followed(self, table: &mut [i32], operation: i32, operand: i32) -> Read
+        requires { self.walk.code < 10000000 }
+        ensures { (result ≡ followed_by self) × (table.new ≡ put table.old self.walk.code (operation ∷ operand ∷ [])) }
+    {
+        Read {
+            walk: self.walk.emitted(table, operation, operand),
+            need: self.need,
+        }
     }
-}
-
-// The walk with one instruction more.
-pub fn emitted(table: &mut [i32], w: Walk, operation: i32, operand: i32) -> Walk
-    requires { w.code < 10000000 }
-    ensures { (result ≡ one_instruction w) × (table.new ≡ put table.old w.code (operation ∷ operand ∷ [])) }
-{
-    tables::put(table, w.code, operation, operand);
-    skipped(w)
-}
-
-// What was read, with one instruction more.
-pub fn followed(table: &mut [i32], r: Read, operation: i32, operand: i32) -> Read
-    requires { r.walk.code < 10000000 }
-    ensures { (result ≡ followed_by r) × (table.new ≡ put table.old r.walk.code (operation ∷ operand ∷ [])) }
-{
-    Read {
-        walk: emitted(table, r.walk, operation, operand),
-        need: r.need,
-    }
-}
-
-// The walk with a name's refusal, unless it had one.
-#[tactic(auto, unfolding(crate::specs::inner::Steps::faulted_walk, crate::specs::inner::Steps::first_fault))]
-pub fn faulted(w: Walk, refused: Refused) -> Walk
-    ensures { result ≡ faulted_walk w refused }
-{
-    Walk {
-        fault: w.fault.or(Some(refused)),
-        ..w
-    }
-}
-
-// ---- the lexeme ahead
-
-// Before a text, whose code begins at a place.
-#[tactic(auto, unfolding(lexeme::specs::inner::Coded::code_of))]
-pub fn start(code: usize) -> Walk
-    ensures { result ≡ start_at code }
-{
-    Walk {
-        next: Lexeme {
-            kind: Kind::Fixed(fixed::END),
-            place: 0,
-            end: 0,
-        },
-        code: code,
-        fault: None,
-    }
-}
-
-// The number of the fixed lexeme ahead; 255 is none.
-pub fn fixed_ahead(w: Walk) -> u8
-    ensures { result ≡ fixed_number w.next.kind }
-{
-    lexeme::fixed_of(w.next.kind)
-}
-
-// Past the lexeme ahead, if a lexeme follows it.
-pub fn advance(text: &[u8], w: Walk) -> Result<Walk, Refused>
-    requires { w.next.end ≤ length text.now }
-    ensures { Advances text.now w result }
-{
-    let next = lexer::next(text, w.next.end)?;
-    Ok(Walk { next, ..w })
-}
-
-// Past one fixed lexeme, and no other.
-pub fn expect(text: &[u8], w: Walk, fixed: u8) -> Result<Walk, Refused>
-    requires { w.next.end ≤ length text.now }
-    ensures { Expects text.now w fixed result }
-{
-    if fixed_ahead(w) == fixed {
-        return advance(text, w);
-    }
-    Err(Refused {
-        why: Refusal::NoProgram,
-        place: w.next.place,
-    })
 }

@@ -3,7 +3,7 @@ use Rattle.lexeme.specs.inner.Coded.{code_of}
 use native.Mathlib.Omega.{arith}
 use mathlib.Core.Path.{sym, ◌∙◌}
 use Rattle.std.proofs.lemmas.Result.{err_from_is_err_and}
-use Rattle.compiler.proofs.Programs.{Begun, not_lexed, not_begun, begun_ready, command_refused, not_ended, whole_read}
+use Rattle.compiler.proofs.Programs.{begun, not_lexed, not_begun, begun_ready, command_refused, not_ended, whole_read}
 use Rattle.compiler.proofs.program.Goals as goal
 
 pub advance-requires : goal.advance-requires
@@ -18,23 +18,16 @@ returns-in_err-x c = let p = err_from_is_err_and c.from_residual-in_err-x.result
 
 pub command-requires : goal.command-requires
 unfolding code_of
-command-requires c = let b : Begun c.args.text.now c.args.names.now c.args.code c.in_ok-x.x = record { set_out = c.requires; start = c.in_ok-w.w; first = rw c.start.ensures at c.in_ok-w.ensures; its_DO = c.in_ok-x.ensures } in begun_ready b _ (omega arith)
+command-requires c = begun_ready (begun c.requires (rw c.start.ensures at c.in_ok-w.ensures) c.in_ok-x.ensures) _ (omega arith)
 
 pub returns-in_err-r : goal.returns-in_err-r
 unfolding code_of
-returns-in_err-r c =
-    let b : Begun c.args.text.now c.args.names.now c.args.code c.in_ok-x.x = record { set_out = c.requires; start = c.in_ok-w.w; first = rw c.start.ensures at c.in_ok-w.ensures; its_DO = c.in_ok-x.ensures } in
-    let p = err_from_is_err_and c.from_residual-in_err-r.result c.from_residual-in_err-r.ensures.1 in
-    rw (p.1, p.2) (command_refused b _ c.in_err-r.ensures)
+returns-in_err-r c = let p = err_from_is_err_and c.from_residual-in_err-r.result c.from_residual-in_err-r.ensures.1 in rw (p.1, p.2) (command_refused (begun c.requires (rw c.start.ensures at c.in_ok-w.ensures) c.in_ok-x.ensures) _ c.in_err-r.ensures)
 
 pub returns-then-fixed_ahead-ne-END : goal.returns-then-fixed_ahead-ne-END
 unfolding code_of
-returns-then-fixed_ahead-ne-END c =
-    let b : Begun c.args.text.now c.args.names.now c.args.code c.in_ok-x.x = record { set_out = c.requires; start = c.in_ok-w.w; first = rw c.start.ensures at c.in_ok-w.ensures; its_DO = c.in_ok-x.ensures } in
-    not_ended b _ c.in_ok-r.ensures (λ h. c.if-fixed_ahead-ne-END.true (c.fixed_ahead.ensures ∙ h))
+returns-then-fixed_ahead-ne-END c = rw c.refused_ahead.ensures (not_ended (begun c.requires (rw c.start.ensures at c.in_ok-w.ensures) c.in_ok-x.ensures) _ c.in_ok-r.ensures (λ h. c.if-fixed_ahead-ne-END.true (c.fixed_ahead.ensures ∙ h)))
 
 pub returns : goal.returns
 unfolding code_of
-returns c =
-    let b : Begun c.args.text.now c.args.names.now c.args.code c.in_ok-x.x = record { set_out = c.requires; start = c.in_ok-w.w; first = rw c.start.ensures at c.in_ok-w.ensures; its_DO = c.in_ok-x.ensures } in
-    whole_read b _ c.in_ok-r.ensures (sym c.fixed_ahead.ensures ∙ c.if-fixed_ahead-ne-END.false)
+returns c = whole_read (begun c.requires (rw c.start.ensures at c.in_ok-w.ensures) c.in_ok-x.ensures) _ c.in_ok-r.ensures (sym c.fixed_ahead.ensures ∙ c.if-fixed_ahead-ne-END.false)

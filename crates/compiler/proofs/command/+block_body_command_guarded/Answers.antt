@@ -90,7 +90,7 @@ pub command-returns-then-not-has_body : goal.command-returns-then-not-has_body
 command-returns-then-not-has_body t c = rw (whole (first_passed c.requires c.in_ok-x.ensures)) at c.without_body.ensures
 
 pub command-returns-then-allow-eq0 : goal.command-returns-then-allow-eq0
-command-returns-then-allow-eq0 t c = too_deep_begun _ (begins_nested c.requires.stands (rw c.fixed_ahead-f.ensures at (sym c.has_body.ensures ∙ c.if-not-has_body.false))) (omega (arith, c.if-allow-eq0.true))
+command-returns-then-allow-eq0 t c = rw c.refused_ahead.ensures (too_deep_begun _ (begins_nested c.requires.stands (rw c.fixed_ahead-f.ensures at (sym c.has_body.ensures ∙ c.if-not-has_body.false))) (omega (arith, c.if-allow-eq0.true)))
 
 pub command-block-requires : goal.command-block-requires
 command-block-requires t c = (omega (arith, c.if-allow-eq0.false), ready_first (first_passed c.requires c.in_ok-x.ensures) (omega (arith, c.if-allow-eq0.false)))

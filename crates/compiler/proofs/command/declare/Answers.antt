@@ -13,7 +13,7 @@ use Rattle.compiler.proofs.Replies.{passed_on}
 use Rattle.compiler.proofs.command.declare.Goals as goal
 
 pub returns-in_default : goal.returns-in_default
-returns-in_default c = none_declared c.requires.stands _ c.in_default.not-Name
+returns-in_default c = rw c.refused_ahead.ensures (none_declared c.requires.stands _ c.in_default.not-Name)
 
 pub emitted-y-requires : goal.emitted-y-requires
 unfolding one_instruction

@@ -13,7 +13,7 @@ use Rattle.compiler.proofs.Replies.{passed_on}
 use Rattle.compiler.proofs.command.print_string.Goals as goal
 
 pub returns-in_default : goal.returns-in_default
-returns-in_default c = no_quoted c.requires.stands _ _ c.in_default.not-Str
+returns-in_default c = rw c.refused_ahead.ensures (no_quoted c.requires.stands _ _ c.in_default.not-Str)
 
 pub advance-requires : goal.advance-requires
 unfolding one_instruction

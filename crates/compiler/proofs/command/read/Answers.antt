@@ -9,7 +9,7 @@ use Rattle.compiler.proofs.Replies.{passed_on}
 use Rattle.compiler.proofs.command.read.Goals as goal
 
 pub returns-in_default : goal.returns-in_default
-returns-in_default c = none_read c.requires.stands _ c.in_default.not-Name
+returns-in_default c = rw c.refused_ahead.ensures (none_read c.requires.stands _ c.in_default.not-Name)
 
 pub used-y-requires : goal.used-y-requires
 unfolding one_instruction

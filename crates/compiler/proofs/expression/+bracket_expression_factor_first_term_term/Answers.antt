@@ -105,11 +105,11 @@ module _ {text names : List ℕ} {table table' : List ℤ} {w x : Walk} {allow :
 
 pub bracket-returns-then-fixed_ahead-ne40 : goal.bracket-returns-then-fixed_ahead-ne40
 unfolding code_of
-bracket-returns-then-fixed_ahead-ne40 t c = no_factor c.requires.ready.stands _ c.requires.no_operand.0 c.requires.no_operand.1 (λ e. c.if-fixed_ahead-ne40.true (c.fixed_ahead.ensures ∙ e))
+bracket-returns-then-fixed_ahead-ne40 t c = rw c.refused_ahead.ensures (no_factor c.requires.ready.stands _ c.requires.no_operand.0 c.requires.no_operand.1 (λ e. c.if-fixed_ahead-ne40.true (c.fixed_ahead.ensures ∙ e)))
 
 pub bracket-returns-then-allow-eq0 : goal.bracket-returns-then-allow-eq0
 unfolding code_of
-bracket-returns-then-allow-eq0 t c = bracket_too_deep c.requires.ready.stands _ (sym c.fixed_ahead.ensures ∙ c.if-fixed_ahead-ne40.false) c.if-allow-eq0.true
+bracket-returns-then-allow-eq0 t c = rw c.refused_ahead-then-allow-eq0.ensures (bracket_too_deep c.requires.ready.stands _ (sym c.fixed_ahead.ensures ∙ c.if-fixed_ahead-ne40.false) c.if-allow-eq0.true)
 
 pub bracket-returns-in_err-x : goal.bracket-returns-in_err-x
 unfolding code_of

@@ -30,7 +30,7 @@ returns-then-fixed_ahead-ne-NOT t c = handed_on (comparison_leads c.requires.sta
 
 pub returns-then-allow-eq0 : goal.returns-then-allow-eq0
 unfolding code_of
-returns-then-allow-eq0 t c = negated_too_deep c.requires.stands _ (sym c.fixed_ahead.ensures ∙ c.if-fixed_ahead-ne-NOT.false) c.if-allow-eq0.true
+returns-then-allow-eq0 t c = rw c.refused_ahead.ensures (negated_too_deep c.requires.stands _ (sym c.fixed_ahead.ensures ∙ c.if-fixed_ahead-ne-NOT.false) c.if-allow-eq0.true)
 
 pub returns-in_err-x : goal.returns-in_err-x
 unfolding code_of

@@ -11,7 +11,7 @@ pub returns-in_err-left : goal.returns-in_err-left
 returns-in_err-left c = passed_on comparison_way _ _ _ _ _ _ _ _ c.from_residual.ensures.1 (comparison_refused c.in_err-left.ensures)
 
 pub returns-then-not-is_rel : goal.returns-then-not-is_rel
-returns-then-not-is_rel c = let g = c.in_ok-left.ensures in no_relation _ g.what g.passed (ap is_rel (sym c.fixed_ahead-f.ensures) ∙ sym c.is_rel.ensures ∙ c.if-not-is_rel.true)
+returns-then-not-is_rel c = let g = c.in_ok-left.ensures in rw c.refused_ahead.ensures (no_relation _ g.what g.passed (ap is_rel (sym c.fixed_ahead-f.ensures) ∙ sym c.is_rel.ensures ∙ c.if-not-is_rel.true))
 
 pub returns-in_err-x : goal.returns-in_err-x
 returns-in_err-x c = passed_on comparison_way _ _ _ _ _ _ _ _ c.from_residual-in_err-x.ensures.1 (right_lost comparison_joins c.in_ok-left.ensures c.fixed_ahead-f.ensures (sym c.is_rel.ensures ∙ c.if-not-is_rel.false) c.in_err-x.ensures)

@@ -1,8 +1,8 @@
--- `compiler::walk::advance` meets its contract. Assumes nothing.
+-- `compiler::walk::Walk::advance` meets its contract. Assumes nothing.
 use mathlib.Core.Path.{refl}
 use Rattle.lexeme.proofs.Places.{next_stands}
 use Rattle.compiler.specs.inner.Steps.{moved_to}
-use Rattle.compiler.proofs.walk.advance.Goals as goal
+use Rattle.compiler.proofs.walk.Walk.advance.Goals as goal
 
 pub returns : goal.returns
 unfolding moved_to
