@@ -1,14 +1,13 @@
 -- What comes of a copy, from what `judge` and `write` promise: a law for each outcome. Assumes nothing.
 use mathlib.Core.Path.{◌≡◌, refl, sym, ap, ◌∙◌}
 use mathlib.Core.List.{List, [], ◌++◌, append_assoc}
-use mathlib.Core.Bool.{Bool, true, false, cond, ◌||◌}
+use mathlib.Core.Bool.{Bool, true, false, cond}
 use Prim.Native.Nat.{ℕ, ◌+◌, ◌-◌, ◌≤◌, ◌<◌, min}
 use native.Mathlib.Omega.{arith}
-use borrow.Author.Tests.{le-ltb, lt-ltb, ltb-false}
-use lib.Dec.{ltb}
-use lib.ListN.{length, take, drop, replicate, length-append, length-drop}
+use lib.ListN.{length, take, drop, replicate}
 use lib.Seq.{length-take-le, take_at}
 use Rattle.std.specs.Result.{result_unwrap_or}
+use Rattle.std.proofs.lemmas.Grind.{common_steps}
 use Rattle.limits.specs.Limits.{Limits, Sizes}
 use Rattle.base.specs.declared.Refused as base
 use Rattle.base.specs.Answers as A
@@ -44,15 +43,11 @@ module _ (limits : Limits) (text room : List ℕ) where
 module _ (limits : Limits) (text room : List ℕ) (most : ℕ) (is_most : most ≡ min (length room) limits.text) where
   fits : length (tidy_of limits.sizes text) ≤ most → longer limits text (length room) ≡ false
   unfolding longer
-  fits h = rw (le-ltb (length room) (length (tidy_of limits.sizes text)) (omega arith), le-ltb limits.text (length (tidy_of limits.sizes text)) (omega arith))
+  fits h = grind (arith, common_steps)
 
   no_fit : most < length (tidy_of limits.sizes text) → longer limits text (length room) ≡ true
   unfolding longer
-  no_fit h = by (ltb (length room) (length (tidy_of limits.sizes text))) refl
-    where
-      by : (t : Bool) → ltb (length room) (length (tidy_of limits.sizes text)) ≡ t → (t || ltb limits.text (length (tidy_of limits.sizes text))) ≡ true
-      by true e = refl
-      by false e = lt-ltb limits.text (length (tidy_of limits.sizes text)) (omega (arith, ltb-false (length room) (length (tidy_of limits.sizes text)) e))
+  no_fit h = grind (arith, common_steps)
 
   front_long : length (take most room) ≡ most
   front_long = length-take-le most room (omega arith)
@@ -69,7 +64,7 @@ module _ (limits : Limits) (text room : List ℕ) (most : ℕ) (is_most : most �
           rw (tidy_is limits.sizes text ls.0 ls.1) (writes.copies f.0 ls.0 f.1 f.2)
 
       whole_long : length (front ++ drop most room) ≡ length room
-      whole_long = length-append front (drop most room) ∙ rw (writes.long, front_long) (omega (arith, length-drop most room))
+      whole_long = let l = writes.long in grind (arith, common_steps)
 
       by_no_room : q ≡ None → CopiedSo limits text room (Err NoRoom) (front ++ drop most room)
       unfolding tidied bytes

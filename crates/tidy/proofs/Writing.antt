@@ -1,7 +1,7 @@
 -- The loop that writes the copy: what stands in the room, with what is still to come, is the tidy text. Assumes nothing.
 use mathlib.Core.Path.{◌≡◌, refl, sym, ap, subst, ◌∙◌}
 use mathlib.Core.List.{List, [], ◌∷◌, ◌++◌, append-nil, append_assoc}
-use mathlib.Core.Bool.{Bool, true, false, cond}
+use mathlib.Core.Bool.{cond}
 use Prim.Native.Nat.{ℕ, ◌-◌, ◌≤◌, ◌<◌}
 use native.Mathlib.Omega.{arith}
 use borrow.Author.Tests.{ne_eqb}
@@ -24,6 +24,7 @@ use Rattle.numbers.specs.Numbers.{decimal}
 use Rattle.numbers.proofs.Digits.{some_digits}
 use Rattle.std.specs.Prelude.{Option, Some, None, Ok}
 use Rattle.std.specs.Result.{result_ok}
+use Rattle.std.proofs.lemmas.Grind.{common_steps}
 use Rattle.spelling.specs.Spelling.{written, after_space, spaced, without_end, tidy_text}
 use Rattle.spelling.proofs.Inverse.{as_it_stands, literal_stands}
 use Rattle.tidy.specs.inner.Copies.{without_zeros, of_kind, copied, gap, Puts}
@@ -94,19 +95,11 @@ to_come n ws = cond (eqb n 0) (spaced ws) (after_space ws)
 
 come_out : (n : ℕ) → to_come n [] ≡ []
 unfolding spaced after_space
-come_out n = by (eqb n 0)
-  where
-    by : (t : Bool) → cond {A = List ℕ} t [] [] ≡ []
-    by true = refl
-    by false = refl
+come_out n = grind (arith, common_steps)
 
 come_on : (n : ℕ) (w : lexemes.Lexeme) (ws : List lexemes.Lexeme) → to_come n (w ∷ ws) ≡ gap n ++ (written w ++ after_space ws)
 unfolding spaced after_space gap
-come_on n w ws = by (eqb n 0)
-  where
-    by : (t : Bool) → cond t (written w ++ after_space ws) (32 ∷ (written w ++ after_space ws)) ≡ cond t [] (32 ∷ []) ++ (written w ++ after_space ws)
-    by true = refl
-    by false = refl
+come_on n w ws = grind (arith, common_steps)
 
 -- ---- the loop
 

@@ -7,11 +7,11 @@ use Rattle.std.proofs.lemmas.Grind.{common_steps}
 use Rattle.std.proofs.lemmas.List.Sums.{prefix_len-le-length}
 use mathlib.Core.Path.{◌≡◌, refl, sym, ap, ◌∙◌}
 use mathlib.Core.List.{List, [], ◌∷◌}
-use mathlib.Core.Bool.{Bool, true, false, ◌&&◌}
+use mathlib.Core.Bool.{Bool, true, false}
 use Prim.Native.Nat.{ℕ, ◌<◌}
 use native.Mathlib.Omega.{arith}
-use borrow.Author.Tests.{lt-ltb, eq-eqb, ne_eqb, eqb-true, eqb-false}
-use lib.Dec.{eqb, ltb}
+use borrow.Author.Tests.{eqb-true, eqb-false}
+use lib.Dec.{eqb}
 use lib.ListN.{length, drop}
 use lib.IntN.{pos}
 use Rattle.base.specs.Bytes.{digit, all, value}
@@ -21,25 +21,17 @@ use Rattle.spelling.proofs.Decimals.{decimal_one, decimal_needed, value_zero}
 use Rattle.tidy.specs.inner.Copies.{without_zeros}
 
 module _ (b : ℕ) (w : List ℕ) where
-  -- a word after the test of its first byte
-  abbrev after : Bool → List ℕ
-  after t = elim t [ true ↦ without_zeros w | false ↦ b ∷ w ]
-
-  pub needless : b ≡ 48 → 0 < length w → without_zeros (b ∷ w) ≡ without_zeros w
+  needless : b ≡ 48 → 0 < length w → without_zeros (b ∷ w) ≡ without_zeros w
   unfolding without_zeros
-  needless e h = let t : (eqb b 48 && ltb 0 (length w)) ≡ true = rw (eq-eqb b 48 e, lt-ltb 0 (length w) h) in ap after t
+  needless e h = grind (arith, common_steps)
 
-  pub needed : (b ≡ 48 → ⊥) → without_zeros (b ∷ w) ≡ b ∷ w
+  needed : (b ≡ 48 → ⊥) → without_zeros (b ∷ w) ≡ b ∷ w
   unfolding without_zeros
-  needed n = let t : (eqb b 48 && ltb 0 (length w)) ≡ false = rw (ne_eqb b 48 n) in ap after t
+  needed n = grind (arith, common_steps)
 
-pub last_needed : (b : ℕ) → without_zeros (b ∷ []) ≡ b ∷ []
+last_needed : (b : ℕ) → without_zeros (b ∷ []) ≡ b ∷ []
 unfolding without_zeros
-last_needed b = by (eqb b 48)
-  where
-    by : (t : Bool) → after b [] (t && ltb 0 0) ≡ b ∷ []
-    by true = refl
-    by false = refl
+last_needed b = grind (arith, common_steps)
 
 abbrev pub no_zero : ℕ → Bool
 no_zero b = not (eqb b 48)
@@ -68,12 +60,7 @@ zeros_from (b ∷ w) last from r l e f =
 pub zeros_decimal : (w : List ℕ) → all digit w ≡ true → 0 < length w → without_zeros w ≡ decimal (pos (value 0 w))
 zeros_decimal [] a h = absurd (omega arith)
 zeros_decimal (b ∷ []) a h = last_needed b ∙ sym (decimal_one b (all_first digit b [] a))
-zeros_decimal (b ∷ d ∷ w) a h = by (zeros_decimal (d ∷ w) (all_rest digit b (d ∷ w) a) (omega arith)) (eqb b 48) refl
-  where
-    by : without_zeros (d ∷ w) ≡ decimal (pos (value 0 (d ∷ w))) → (t : Bool) → eqb b 48 ≡ t → without_zeros (b ∷ d ∷ w) ≡ decimal (pos (value 0 (b ∷ d ∷ w)))
-    by on true e =
-        let z : b ≡ 48 = eqb-true b 48 e in
-        needless b (d ∷ w) z (omega arith) ∙ on ∙ rw z (ap (λ (n : ℕ). decimal (pos n)) (sym (value_zero (d ∷ w))))
-    by on false e =
-        let n : b ≡ 48 → ⊥ = eqb-false b 48 e in
-        needed b (d ∷ w) n ∙ sym (decimal_needed b (d ∷ w) (all_first digit b (d ∷ w) a) (all_rest digit b (d ∷ w) a) n)
+zeros_decimal (b ∷ d ∷ w) a h =
+    let digits = all_rest digit b (d ∷ w) a in
+    let rest = zeros_decimal (d ∷ w) digits (omega arith) in
+    grind (arith, common_steps, needless b (d ∷ w), needed b (d ∷ w), value_zero (d ∷ w), decimal_needed b (d ∷ w) (all_first digit b (d ∷ w) a) digits)
