@@ -1,5 +1,7 @@
 -- Document 01, "How a run ends": the endings and their numbers.
 use Rattle.std.specs.Prelude.{ℕ}
+use Rattle.endings.specs.declared.Ending.{Ending}
+use Rattle.endings.specs.declared.Ending.TheVariants.{Normal, StoppedByError, BudgetSpent, NoReadingLeft, OutsideRange, DivisionBy0, StackFull, PrintDoesNotFit, BadCode}
 
 abbrev pub normal : ℕ
 normal = 0
@@ -27,3 +29,15 @@ print_does_not_fit = 7
 
 abbrev pub bad_code : ℕ
 bad_code = 8
+
+-- the number of an ending as the code has it
+abbrev pub number_of : Ending → ℕ
+number_of Normal = normal
+number_of StoppedByError = stopped_by_ERROR
+number_of BudgetSpent = budget_spent
+number_of NoReadingLeft = no_reading_left
+number_of OutsideRange = outside_range
+number_of DivisionBy0 = division_by_0
+number_of StackFull = stack_full
+number_of PrintDoesNotFit = print_does_not_fit
+number_of BadCode = bad_code

@@ -1,16 +1,26 @@
-// How a run ends, by number. 0 and 1 are a Halt's own operands.
+// How a run ends.
 #![tactic(auto)]
 
-pub const BUDGET_SPENT: u8 = 2;
+ghost use Rattle.std.specs.Prelude.{◌≡◌};
+ghost use Rattle.endings.specs.Endings.{number_of};
 
-pub const NO_READING_LEFT: u8 = 3;
+// Document 01, "How a run ends". The first two are what a Halt gives.
+#[derive(Clone, Copy, PartialEq, Eq, Debug)]
+pub enum Ending {
+    Normal = 0,
+    StoppedByError = 1,
+    BudgetSpent = 2,
+    NoReadingLeft = 3,
+    OutsideRange = 4,
+    DivisionBy0 = 5,
+    StackFull = 6,
+    PrintDoesNotFit = 7,
+    BadCode = 8,
+}
 
-pub const OUTSIDE_RANGE: u8 = 4;
-
-pub const DIVISION_BY_0: u8 = 5;
-
-pub const STACK_FULL: u8 = 6;
-
-pub const PRINT_DOES_NOT_FIT: u8 = 7;
-
-pub const BAD_CODE: u8 = 8;
+// The paper's number of an ending.
+pub fn number(e: Ending) -> u8
+    ensures { result ≡ number_of e }
+{
+    e as u8
+}

@@ -1,16 +1,17 @@
 -- What the code holds tells instructions apart, so that the contract of `decode` leaves one answer. Assumes nothing.
 use mathlib.Core.Path.{◌≡◌, refl, ap}
 use mathlib.Core.Bool.{true, false}
-use mathlib.Core.Option.{Option, none, some}
+use Rattle.std.specs.Prelude.{Option, Some, None}
+use Rattle.endings.proofs.Unique.{ending_back, ending_again}
 use Rattle.numbers.specs.Numbers.{TwoSidedOperation, plus, minus, times, divide, equals, smaller, greater}
 use Rattle.numbers.specs.inner.Coded.{as_two_sided}
 use Rattle.numbers.specs.declared.arith.Operator.{Operator}
 use Rattle.numbers.specs.declared.arith.Operator.TheVariants.{Plus, Minus, Times, Divide, Equals, Smaller, Greater}
 use Rattle.base.proofs.Unique.{same_by}
 use Rattle.instruction.specs.Instructions.{Instruction, halt, push_int, load_stack, store_stack, jump, jump_if_false, two_sided, negate, not, read, print_int, print_str, print_str_ln}
-use Rattle.instruction.specs.inner.Coded.{as_instruction}
+use Rattle.instruction.specs.inner.Coded.{as_done, as_instruction}
 use Rattle.instruction.specs.declared.decode.Op.{Op}
-use Rattle.instruction.specs.declared.decode.Op.TheVariants.{Bad, Halt, PushInt, LoadStack, StoreStack, Jump, JumpIfFalse, TwoSided, Negate, Not, Read, PrintInt, PrintStr}
+use Rattle.instruction.specs.declared.decode.Op.TheVariants.{Halt, PushInt, LoadStack, StoreStack, Jump, JumpIfFalse, TwoSided, Negate, Not, Read, PrintInt, PrintStr}
 
 abbrev operator_back : TwoSidedOperation → Operator
 operator_back plus = Plus
@@ -30,25 +31,23 @@ operator_again Equals = refl
 operator_again Smaller = refl
 operator_again Greater = refl
 
-abbrev op_back : Option Instruction → Op
-op_back none = Bad
-op_back (some (halt h)) = Halt h
-op_back (some (push_int v)) = PushInt v
-op_back (some (load_stack k)) = LoadStack k
-op_back (some (store_stack k)) = StoreStack k
-op_back (some (jump a)) = Jump a
-op_back (some (jump_if_false a)) = JumpIfFalse a
-op_back (some (two_sided t)) = TwoSided (operator_back t)
-op_back (some negate) = Negate
-op_back (some not) = Not
-op_back (some read) = Read
-op_back (some print_int) = PrintInt
-op_back (some (print_str q)) = PrintStr q false
-op_back (some (print_str_ln q)) = PrintStr q true
+abbrev op_back : Instruction → Op
+op_back (halt h) = Halt (ending_back h)
+op_back (push_int v) = PushInt v
+op_back (load_stack k) = LoadStack k
+op_back (store_stack k) = StoreStack k
+op_back (jump a) = Jump a
+op_back (jump_if_false a) = JumpIfFalse a
+op_back (two_sided t) = TwoSided (operator_back t)
+op_back negate = Negate
+op_back not = Not
+op_back read = Read
+op_back print_int = PrintInt
+op_back (print_str q) = PrintStr q false
+op_back (print_str_ln q) = PrintStr q true
 
-op_again : (o : Op) → op_back (as_instruction o) ≡ o
-op_again Bad = refl
-op_again (Halt h) = refl
+op_again : (o : Op) → op_back (as_done o) ≡ o
+op_again (Halt e) = ap Halt (ending_again e)
 op_again (PushInt v) = refl
 op_again (LoadStack k) = refl
 op_again (StoreStack k) = refl
@@ -62,5 +61,8 @@ op_again PrintInt = refl
 op_again (PrintStr q false) = refl
 op_again (PrintStr q true) = refl
 
-pub one_instruction : (o p : Op) → as_instruction o ≡ as_instruction p → o ≡ p
-one_instruction = same_by as_instruction op_back op_again
+pub one_instruction : (o p : Option Op) → as_instruction o ≡ as_instruction p → o ≡ p
+one_instruction None None h = refl
+one_instruction None (Some p) h = cc
+one_instruction (Some o) None h = cc
+one_instruction (Some o) (Some p) h = ap Some (same_by as_done op_back op_again o p (cc))

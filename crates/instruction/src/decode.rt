@@ -1,18 +1,16 @@
 // From a pair of numbers to its instruction.
-ghost use Rattle.std.specs.Prelude.{◌≡◌, cond};
-ghost use Rattle.std.proofs.Math.Option.{none};
-ghost use Rattle.numbers.specs.Numbers.{is_false};
-ghost use Rattle.instruction.specs.Instructions.{halting, decode};
-ghost use Rattle.instruction.specs.inner.Coded.{as_instruction};
+ghost use Rattle.std.specs.Prelude.{◌≡◌, nat_abs, SomeIff, pos, ◌≤ℤ◌};
+ghost use Rattle.instruction.specs.Instructions.{alone, halting, decode};
+ghost use Rattle.instruction.specs.inner.Coded.{as_done, as_instruction};
 
 use super::operations;
+use endings::Ending;
 use numbers::arith::Operator;
 
 // An instruction as it is done: one for the operators and relations, and one for the strings, with or without a line feed.
-#[derive(Clone, Copy)]
+#[derive(Clone, Copy, PartialEq, Eq, Debug)]
 pub enum Op {
-    Bad,
-    Halt(u8),
+    Halt(Ending),
     PushInt(i32),
     LoadStack(usize),
     StoreStack(usize),
@@ -27,48 +25,44 @@ pub enum Op {
 }
 
 // An unused operand is 0.
-fn alone(o: Op, a: i32) -> Op
-    ensures { as_instruction result ≡ cond (is_false a) (as_instruction o) none }
+#[tactic(auto, using(numbers::proofs::Signed::zero_test, crate::proofs::Codes::tested), unfolding(crate::specs::Instructions::alone))]
+fn alone(o: Op, a: i32) -> Option<Op>
+    ensures { as_instruction result ≡ alone (as_done o) a }
 {
-    if a == 0 { o } else { Op::Bad }
+    (a == 0).then_some(o)
 }
 
 // A Halt's operand is 0 or 1.
-fn halting(a: i32) -> Op
+#[tactic(auto, using(crate::proofs::Codes::no_halting), unfolding(crate::specs::Instructions::halting))]
+fn halting(a: i32) -> Option<Op>
     ensures { as_instruction result ≡ halting a }
 {
-    if a == 0 {
-        return Op::Halt(0);
+    match a {
+        0 => Some(Op::Halt(Ending::Normal)),
+        1 => Some(Op::Halt(Ending::StoppedByError)),
+        _ => None,
     }
-    if a == 1 {
-        return Op::Halt(1);
-    }
-    Op::Bad
 }
 
-// Each operation tests its own operand, so that a step tests nothing that belongs to another.
-pub fn decode(operation: i32, a: i32) -> Op
+// A place or a cell is not below zero.
+fn natural(a: i32) -> Option<usize>
+    ensures { SomeIff result (pos 0 ≤ℤ a) (nat_abs a) }
+{
+    usize::try_from(a).ok()
+}
+
+// Each operation tests its own operand, so that a step tests nothing that belongs to another. None is bad code.
+#[tactic(auto, using(crate::proofs::Codes::found, crate::proofs::Codes::no_operation), unfolding(crate::specs::Instructions::operation, crate::specs::Instructions::opcode, crate::specs::Instructions::encode, crate::specs::Instructions::number, crate::specs::Instructions::natural))]
+pub fn decode(operation: i32, a: i32) -> Option<Op>
     ensures { as_instruction result ≡ decode operation a }
 {
     match operation {
         operations::HALT => halting(a),
-        operations::PUSH_INT => Op::PushInt(a),
-        operations::LOAD_STACK => if a < 0 {
-            Op::Bad
-        } else {
-            Op::LoadStack(a as usize)
-        },
-        operations::STORE_STACK => if a < 0 {
-            Op::Bad
-        } else {
-            Op::StoreStack(a as usize)
-        },
-        operations::JUMP => if a < 0 { Op::Bad } else { Op::Jump(a as usize) },
-        operations::JUMP_IF_FALSE => if a < 0 {
-            Op::Bad
-        } else {
-            Op::JumpIfFalse(a as usize)
-        },
+        operations::PUSH_INT => Some(Op::PushInt(a)),
+        operations::LOAD_STACK => Some(Op::LoadStack(natural(a)?)),
+        operations::STORE_STACK => Some(Op::StoreStack(natural(a)?)),
+        operations::JUMP => Some(Op::Jump(natural(a)?)),
+        operations::JUMP_IF_FALSE => Some(Op::JumpIfFalse(natural(a)?)),
         operations::PLUS => alone(Op::TwoSided(Operator::Plus), a),
         operations::MINUS => alone(Op::TwoSided(Operator::Minus), a),
         operations::TIMES => alone(Op::TwoSided(Operator::Times), a),
@@ -80,16 +74,8 @@ pub fn decode(operation: i32, a: i32) -> Op
         operations::NOT => alone(Op::Not, a),
         operations::READ => alone(Op::Read, a),
         operations::PRINT_INT => alone(Op::PrintInt, a),
-        operations::PRINT_STR => if a < 0 {
-            Op::Bad
-        } else {
-            Op::PrintStr(a as usize, false)
-        },
-        operations::PRINT_STR_LN => if a < 0 {
-            Op::Bad
-        } else {
-            Op::PrintStr(a as usize, true)
-        },
-        _ => Op::Bad,
+        operations::PRINT_STR => Some(Op::PrintStr(natural(a)?, false)),
+        operations::PRINT_STR_LN => Some(Op::PrintStr(natural(a)?, true)),
+        _ => None,
     }
 }

@@ -1,4 +1,5 @@
-// The operations, by number.
+// The operations, by number. Constants and no enum: the way back from a number would be a second list of the nineteen, and `decode` would
+// tell the operations apart twice in one step.
 pub const HALT: i32 = 1;
 
 pub const PUSH_INT: i32 = 2;

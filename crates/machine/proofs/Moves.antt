@@ -14,14 +14,13 @@ use borrow.Author.Tests.{lt-ltb, le-ltb, ltb-true, ltb-false, leb-true, leb-fals
 use Rattle.endings.specs.Endings.{no_reading_left, stack_full, bad_code}
 use Rattle.numbers.specs.Numbers.{TwoSidedOperation, is_false}
 use Rattle.instruction.specs.Instructions.{Instruction, push_int, load_stack, store_stack, jump, jump_if_false, two_sided, negate, not, read, takes, gives, effect}
-use Rattle.moves.specs.inner.Moves.{moves_to, push_int_move, load_stack_move, store_stack_move, jump_move, jump_if_false_move, two_sided_move, negate_move, not_move, read_move}
+use Rattle.moves.specs.inner.Moves.{Led, leads, stops, moves_to, push_int_move, load_stack_move, store_stack_move, jump_move, jump_if_false_move, two_sided_move, negate_move, not_move, read_move}
 use Rattle.moves.specs.declared.State.{State}
-use Rattle.moves.specs.declared.Move.{Move}
-use Rattle.moves.specs.declared.Move.TheVariants.{Go, Stop}
+use Rattle.moves.specs.declared.Move.TheVariants.{Go}
 use Rattle.rules.specs.Machine.{Lent, pushed, left_with, taken, reading, one_used, pairs, names_well, does, tried}
 use Rattle.machine.specs.inner.Coded.{live, Good, Did}
 use Rattle.machine.proofs.Cells.{live_first, live_second, poke_live}
-use Rattle.machine.proofs.Steps.{stops, goes, sets, does_push, does_put, few, misnamed, full, works, loads, jumps_to, also, no_more, one_more}
+use Rattle.machine.proofs.Steps.{stopped, goes, sets, does_push, does_put, few, misnamed, full, works, loads, jumps_to, also, no_more, one_more}
 
 -- the live cells as they are handed to an instruction, the lowest first
 abbrev pub held : State → List ℤ → List ℤ
@@ -29,7 +28,7 @@ held s cells = take s.depth cells
 
 module _ {lent : Lent} {before : List ℕ} {s : State} {cells : List ℤ} {room : List ℕ} (g : Good lent before s cells room) where
   -- the answer r is what the rule of the instruction says
-  abbrev So : Instruction → Move → Type 0
+  abbrev So : Instruction → Led → Type 0
   So i r = Did lent before (tried lent i) s cells room r room
 
   pub count : length (held s cells) ≡ s.depth
@@ -43,28 +42,28 @@ module _ {lent : Lent} {before : List ℕ} {s : State} {cells : List ℤ} {room 
 
   -- ---- the tests, in the rule's order
 
-  by : (i : Instruction) {m n : Move} (b : Bool) → (b ≡ true → So i m) → (b ≡ false → So i n) → So i (cond b m n)
+  by : (i : Instruction) {m n : Led} (b : Bool) → (b ≡ true → So i m) → (b ≡ false → So i n) → So i (cond b m n)
   by i true f h = f refl
   by i false f h = h refl
 
-  enough : (i : Instruction) {m : Move} → (takes i ≤ s.depth → So i m) → So i (cond (ltb s.depth (takes i)) (Stop bad_code) m)
+  enough : (i : Instruction) {m : Led} → (takes i ≤ s.depth → So i m) → So i (cond (ltb s.depth (takes i)) (stops bad_code) m)
   enough i f =
       by i (ltb s.depth (takes i))
-      (λ h. stops g (tried lent i) bad_code (few g i (ltb-true s.depth (takes i) h)))
+      (λ h. stopped g (tried lent i) bad_code (few g i (ltb-true s.depth (takes i) h)))
       (λ h. f (ltb-false s.depth (takes i) h))
 
   -- it names k, which has to be below n
-  named : (i : Instruction) (d k n : ℕ) {m : Move} → takes i ≤ s.depth → s.depth - takes i ≡ d → names_well lent i d ≡ ltb k n → (k < n → So i m) → So i (cond (leb n k) (Stop bad_code) m)
+  named : (i : Instruction) (d k n : ℕ) {m : Led} → takes i ≤ s.depth → s.depth - takes i ≡ d → names_well lent i d ≡ ltb k n → (k < n → So i m) → So i (cond (leb n k) (stops bad_code) m)
   named i d k n h l w f =
       by i (leb n k)
-      (λ b. stops g (tried lent i) bad_code (misnamed g i d h l (w ∙ le-ltb k n (leb-true n k b))))
+      (λ b. stopped g (tried lent i) bad_code (misnamed g i d h l (w ∙ le-ltb k n (leb-true n k b))))
       (λ b. f (leb-false n k b))
 
   -- it adds a value
-  fits : (i : Instruction) {m : Move} → takes i ≡ 0 → gives i ≡ 1 → names_well lent i s.depth ≡ true → (s.depth < length cells → So i m) → So i (cond (leb (length cells) s.depth) (Stop stack_full) m)
+  fits : (i : Instruction) {m : Led} → takes i ≡ 0 → gives i ≡ 1 → names_well lent i s.depth ≡ true → (s.depth < length cells → So i m) → So i (cond (leb (length cells) s.depth) (stops stack_full) m)
   fits i t v w f =
       by i (leb (length cells) s.depth)
-      (λ b. stops g (tried lent i) stack_full (full g i s.depth (omega arith) (omega arith) w (omega (arith, leb-true (length cells) s.depth b))))
+      (λ b. stopped g (tried lent i) stack_full (full g i s.depth (omega arith) (omega arith) w (omega (arith, leb-true (length cells) s.depth b))))
       (λ b. f (leb-false (length cells) s.depth b))
 
   -- ---- the instructions
@@ -94,7 +93,7 @@ module _ {lent : Lent} {before : List ℕ} {s : State} {cells : List ℤ} {room 
 
   -- with the value 0 it is taken
   module _ (a : ℕ) (h : 1 ≤ s.depth) (w : a < pairs lent) where
-    turns : (b : Bool) → is_false (get_or (held s cells) (s.depth - 1) (pos 0)) ≡ b → So (jump_if_false a) (Go (moves_to s (cond b (a * 2) s.index) (s.depth - 1)))
+    turns : (b : Bool) → is_false (get_or (held s cells) (s.depth - 1) (pos 0)) ≡ b → So (jump_if_false a) (leads (Go (moves_to s (cond b (a * 2) s.index) (s.depth - 1))))
     unfolding effect names_well does
     turns true e =
         goes g (tried lent (jump_if_false a)) (a * 2) (s.depth - 1) (omega arith) (omega (arith, g.deep))
@@ -129,6 +128,6 @@ module _ {lent : Lent} {before : List ℕ} {s : State} {cells : List ℤ} {room 
       let rule = works g read s.depth (omega arith) (sub-zero s.depth) refl (omega arith) refl refl in
       let v = get_or lent.readings s.used (pos 0) in
       by read (leb (length lent.readings) s.used)
-      (λ b. stops g (tried lent read) no_reading_left (rw (no_more lent.readings s.used (leb-true (length lent.readings) s.used b)) at rule))
+      (λ b. stopped g (tried lent read) no_reading_left (rw (no_more lent.readings s.used (leb-true (length lent.readings) s.used b)) at rule))
       (λ b. also (does_push (record { deep = g.deep; stack = g.stack; within = g.within; size = g.size; past = g.past; whole = g.whole }) (pushed v) s.depth v h refl)
       (rw (add-one s.used) (rw (one_more lent.readings s.used (leb-false (length lent.readings) s.used b)) at rule))))

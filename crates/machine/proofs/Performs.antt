@@ -1,27 +1,28 @@
 -- What was decoded, done at the state past it, is what the rule says. Assumes nothing.
-use mathlib.Core.Path.{◌≡◌, refl}
+use mathlib.Core.Path.{◌≡◌}
 use mathlib.Core.List.{List}
 use Prim.Native.Nat.{ℕ}
 use lib.IntN.{ℤ}
 use lib.ListN.{length}
+use Rattle.std.specs.Prelude.{Some}
+use Rattle.endings.specs.Endings.{number_of}
+use Rattle.moves.specs.inner.Moves.{Led}
 use Rattle.instruction.specs.inner.Coded.{as_instruction}
 use Rattle.instruction.specs.declared.decode.Op.{Op}
-use Rattle.instruction.specs.declared.decode.Op.TheVariants.{Bad, Halt, PushInt, LoadStack, StoreStack, Jump, JumpIfFalse, TwoSided, Negate, Not, Read, PrintInt, PrintStr}
+use Rattle.instruction.specs.declared.decode.Op.TheVariants.{Halt, PushInt, LoadStack, StoreStack, Jump, JumpIfFalse, TwoSided, Negate, Not, Read, PrintInt, PrintStr}
 use Rattle.moves.specs.declared.State.{State}
-use Rattle.moves.specs.declared.Move.{Move}
 use Rattle.perform.specs.inner.Prints.{print_move, print_room, Performed}
 use Rattle.perform.specs.inner.Asks.{asked}
 use Rattle.rules.specs.Machine.{Lent, decoded}
 use Rattle.machine.specs.inner.Coded.{Good, Did}
 use Rattle.machine.proofs.Moves.{held, pushes_int, loads_stack, stores_stack, jumps, jumps_if_false, operates, negates, nots, reads}
 use Rattle.machine.proofs.Prints.{So, prints_int, prints_str}
-use Rattle.machine.proofs.Steps.{stops, halts}
+use Rattle.machine.proofs.Steps.{stopped, halts}
 
 module _ {lent : Lent} {before : List ℕ} {s : State} {cells : List ℤ} {room : List ℕ} (g : Good lent before s cells room) where
-  each : (o : Op) → So g (decoded lent (as_instruction o)) (asked s (length lent.table) lent.text lent.readings (held s cells) (length cells) o)
+  each : (o : Op) → So g (decoded lent (as_instruction (Some o))) (asked s (length lent.table) lent.text lent.readings (held s cells) (length cells) o)
   unfolding asked decoded print_move print_room
-  each Bad = stops g _ 8 refl
-  each (Halt h) = stops g _ h (halts g h)
+  each (Halt e) = stopped g _ (number_of e) (halts g (number_of e))
   each (PushInt v) = pushes_int g v
   each (LoadStack k) = loads_stack g k
   each (StoreStack k) = stores_stack g k
@@ -35,6 +36,6 @@ module _ {lent : Lent} {before : List ℕ} {s : State} {cells : List ℤ} {room 
   each (PrintStr q line) = prints_str g q line
 
   -- it is lent the text, the table and the readings of the run
-  pub performs : (o : Op) {text : List ℕ} {table readings : List ℤ} → text ≡ lent.text → table ≡ lent.table → readings ≡ lent.readings → {r : Move} {room' : List ℕ} →
-      Performed (asked s (length table) text readings (held s cells) (length cells) o) room r room' → Did lent before (decoded lent (as_instruction o)) s cells room r room'
+  pub performs : (o : Op) {text : List ℕ} {table readings : List ℤ} → text ≡ lent.text → table ≡ lent.table → readings ≡ lent.readings → {r : Led} {room' : List ℕ} →
+      Performed (asked s (length table) text readings (held s cells) (length cells) o) room r room' → Did lent before (decoded lent (as_instruction (Some o))) s cells room r room'
   performs o t e n l = rw (l.answer, l.bytes, t, e, n) (each o)

@@ -9,20 +9,21 @@ use lib.IntN.{ℤ, pos}
 use lib.ListN.{length, get_or, take, drop, length-append, length-drop}
 use lib.Seq.{take_at, drop_at, length-take-le, drop-drop}
 use borrow.Author.Tests.{leb-true, leb-false, ltb-true, ltb-false}
+use Rattle.std.specs.Prelude.{Some}
 use Rattle.rooms.specs.inner.Rooms.{said, with_bytes}
 use Rattle.endings.specs.Endings.{print_does_not_fit, bad_code}
 use Rattle.numbers.specs.Numbers.{decimal}
 use Rattle.instruction.specs.Instructions.{print_int, effect}
 use Rattle.instruction.specs.inner.Coded.{as_instruction}
 use Rattle.instruction.specs.declared.decode.Op.TheVariants.{PrintStr}
-use Rattle.moves.specs.inner.Moves.{moves_to}
+use Rattle.moves.specs.inner.Moves.{leads, stops, moves_to}
 use Rattle.moves.specs.declared.State.{State}
-use Rattle.moves.specs.declared.Move.TheVariants.{Go, Stop}
+use Rattle.moves.specs.declared.Move.TheVariants.{Go}
 use Rattle.perform.specs.inner.Prints.{Asked, silent, print, fits, print_move, print_room, asked_str, asked_int}
 use Rattle.rules.specs.Machine.{Lent, string, stop, printed, written, names_well, prints, does, tried, decoded}
 use Rattle.machine.specs.inner.Coded.{machine_of, Rule, Good, Did}
 use Rattle.machine.proofs.Moves.{held, count, top}
-use Rattle.machine.proofs.Steps.{stops, few, works, says, also}
+use Rattle.machine.proofs.Steps.{stopped, few, works, says, also}
 use Rattle.rules.proofs.Strings.{quote, not_closed, is_closed}
 
 module _ (room bs : List ℕ) (at : ℕ) (fit : at + length bs ≤ length room) where
@@ -44,7 +45,7 @@ further at k a b e = sym (drop-drop k at a) ∙ (ap (drop k) e ∙ drop-drop k a
 
 module _ {lent : Lent} {before : List ℕ} {s : State} {cells : List ℤ} {room : List ℕ} (g : Good lent before s cells room) (bs : List ℕ) where
   by_fit : (b : Bool) → fits s bs room ≡ b → Did lent before (prints lent bs) s cells room
-      (cond b (Go (record { index = s.index; depth = s.depth; used = s.used; printed = s.printed + length bs })) (Stop print_does_not_fit)) (cond b (with_bytes room s.printed bs) room)
+      (cond b (leads (Go (record s { printed = s.printed + length bs }))) (stops print_does_not_fit)) (cond b (with_bytes room s.printed bs) room)
   unfolding prints written printed
   by_fit false h = record { seen = rw (length-take-le s.printed room g.within, ← g.size, h); left = refl }
   by_fit true h =
@@ -52,14 +53,17 @@ module _ {lent : Lent} {before : List ℕ} {s : State} {cells : List ℤ} {room 
       let l = length_with room bs s.printed f in
       record {
         seen = rw (length-take-le s.printed room g.within, ← g.size, h, take_with room bs s.printed f);
-        left = record {
-          deep = g.deep;
-          stack = g.stack;
-          within = omega arith;
-          size = l ∙ g.size;
-          whole = g.whole;
-          past = drop_with room bs s.printed f ∙ further s.printed (length bs) room before g.past;
-        };
+        left = (
+          tt,
+          record {
+            deep = g.deep;
+            stack = g.stack;
+            within = omega arith;
+            size = l ∙ g.size;
+            whole = g.whole;
+            past = drop_with room bs s.printed f ∙ further s.printed (length bs) room before g.past;
+          },
+        );
       }
 
   prints_so : Did lent before (prints lent bs) s cells room (print_move (print s bs) room) (print_room (print s bs) room)
@@ -72,9 +76,9 @@ module _ {lent : Lent} {before : List ℕ} {s : State} {cells : List ℤ} {room 
   So rule a = Did lent before rule s cells room (print_move a room) (print_room a room)
 
   -- bad code is tested first
-  tested : (rule : Rule) (a : Asked) (b : Bool) → (b ≡ true → stop bad_code ≡ rule (machine_of s cells room)) → (b ≡ false → So rule a) → So rule (cond b (silent (Stop bad_code)) a)
+  tested : (rule : Rule) (a : Asked) (b : Bool) → (b ≡ true → stop bad_code ≡ rule (machine_of s cells room)) → (b ≡ false → So rule a) → So rule (cond b (silent (stops bad_code)) a)
   unfolding print_move print_room
-  tested rule a true f h = stops g rule bad_code (f refl)
+  tested rule a true f h = stopped g rule bad_code (f refl)
   tested rule a false f h = h refl
 
   pub prints_int : So (tried lent print_int) (asked_int s (held s cells))
@@ -89,13 +93,13 @@ module _ {lent : Lent} {before : List ℕ} {s : State} {cells : List ℤ} {room 
       let good : Good lent before (moves_to s s.index d) cells room = record { deep = omega (arith, g.deep); stack = g.stack; within = g.within; size = g.size; past = g.past; whole = g.whole } in
       also (prints_so good bs) (works g print_int d h refl refl (omega arith) refl (top g h))))
 
-  pub prints_str : (q : ℕ) (line : Bool) → So (decoded lent (as_instruction (PrintStr q line))) (asked_str s lent.text q line)
+  pub prints_str : (q : ℕ) (line : Bool) → So (decoded lent (as_instruction (Some (PrintStr q line)))) (asked_str s lent.text q line)
   unfolding asked_str string
   prints_str q line =
       let n = length lent.text in
       let e = quote lent.text q in
       let bs = said line (string lent.text q) in
       let rule = says lent q line (machine_of s cells room) in
-      tested (decoded lent (as_instruction (PrintStr q line))) (print s bs) (leb n e)
+      tested (decoded lent (as_instruction (Some (PrintStr q line)))) (print s bs) (leb n e)
       (λ b. rw (not_closed lent.text q (leb-true n e b)) at rule)
       (λ b. also (prints_so g bs) (rw (is_closed lent.text q (leb-false n e b)) at rule))

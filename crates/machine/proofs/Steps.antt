@@ -10,6 +10,7 @@ use native.Mathlib.Omega.{arith}
 use lib.IntN.{ℤ, pos}
 use lib.ListN.{length, get_or, set, length-set, get_elem?}
 use borrow.Author.Tests.{lt-ltb, le-ltb}
+use Rattle.std.specs.Prelude.{Option, Some}
 use Rattle.endings.specs.Endings.{stack_full, bad_code}
 use Rattle.rooms.specs.inner.Rooms.{said}
 use Rattle.instruction.specs.inner.Coded.{as_instruction}
@@ -18,28 +19,32 @@ use Rattle.instruction.specs.declared.decode.Op.TheVariants.{PrintStr}
 use Rattle.numbers.specs.Numbers.{Result, value, ends}
 use Rattle.instruction.specs.Instructions.{Instruction, halt, push_int, load_stack, decode, takes, gives, effect}
 use Rattle.rules.specs.Machine.{Lent, Machine, string, closed, go, stop, pushed, jumped, resulting, names_well, prints, does, pairs, tried, decoded, fetched, step}
-use Rattle.moves.specs.inner.Moves.{moves_to, pushes, puts}
+use Rattle.moves.specs.inner.Moves.{Led, leads, stops, moves_to, pushes, puts}
 use Rattle.moves.specs.declared.State.{State}
-use Rattle.moves.specs.declared.Move.{Move}
-use Rattle.moves.specs.declared.Move.TheVariants.{Go, Set, Stop}
+use Rattle.moves.specs.declared.Move.TheVariants.{Go, Set}
 use Rattle.machine.specs.inner.Coded.{live, outside, machine_of, Rule, Good, Did}
 use Rattle.rules.proofs.Tried as T
 use Rattle.machine.proofs.Cells.{length_live, live_push, live_drop, peek_live}
 
 module _ {lent : Lent} {before : List ℕ} {s : State} {cells : List ℤ} {room : List ℕ} (g : Good lent before s cells room) where
   -- it stopped, and left the room as it was
-  pub stops : (rule : Rule) (e : ℕ) → stop e ≡ rule (machine_of s cells room) → Did lent before rule s cells room (Stop e) room
-  stops rule e p = record { seen = p; left = refl }
+  pub stopped : (rule : Rule) (e : ℕ) → stop e ≡ rule (machine_of s cells room) → Did lent before rule s cells room (stops e) room
+  stopped rule e p = record { seen = p; left = refl }
+
+  -- bad code
+  pub barred : Did lent before (decoded lent none) s cells room (stops bad_code) room
+  unfolding decoded
+  barred = stopped (decoded lent none) bad_code refl
 
   -- it went on, and printed nothing
-  pub goes : (rule : Rule) (index d : ℕ) → index % 2 ≡ 0 → d ≤ length cells → go (machine_of (moves_to s index d) cells room) ≡ rule (machine_of s cells room) → Did lent before rule s cells room (Go (moves_to s index d)) room
+  pub goes : (rule : Rule) (index d : ℕ) → index % 2 ≡ 0 → d ≤ length cells → go (machine_of (moves_to s index d) cells room) ≡ rule (machine_of s cells room) → Did lent before rule s cells room (leads (Go (moves_to s index d))) room
   goes rule index d w h p = record {
     seen = p;
-    left = record { deep = h; stack = g.stack; within = g.within; size = g.size; past = g.past; whole = w };
+    left = (tt, record { deep = h; stack = g.stack; within = g.within; size = g.size; past = g.past; whole = w });
   }
 
   -- and it sets a cell
-  pub sets : (rule : Rule) (d k : ℕ) (v : ℤ) → d ≤ length cells → k < length cells → go (machine_of (moves_to s s.index d) (set cells k v) room) ≡ rule (machine_of s cells room) → Did lent before rule s cells room (Set (moves_to s s.index d) k v) room
+  pub sets : (rule : Rule) (d k : ℕ) (v : ℤ) → d ≤ length cells → k < length cells → go (machine_of (moves_to s s.index d) (set cells k v) room) ≡ rule (machine_of s cells room) → Did lent before rule s cells room (leads (Set (moves_to s s.index d) k v)) room
   sets rule d k v h l p =
       let e = length-set cells k v in
       record {
@@ -47,19 +52,19 @@ module _ {lent : Lent} {before : List ℕ} {s : State} {cells : List ℤ} {room 
         left = (l, record { deep = omega arith; stack = e ∙ g.stack; within = g.within; size = g.size; past = g.past; whole = g.whole });
       }
 
-  pub does_push : (rule : Rule) (d : ℕ) (v : ℤ) → d < length cells → go (record { place = s.index / 2; stack = v ∷ live d cells; outside = outside s room }) ≡ rule (machine_of s cells room) → Did lent before rule s cells room (pushes s d v) room
+  pub does_push : (rule : Rule) (d : ℕ) (v : ℤ) → d < length cells → go (record { place = s.index / 2; stack = v ∷ live d cells; outside = outside s room }) ≡ rule (machine_of s cells room) → Did lent before rule s cells room (leads (pushes s d v)) room
   does_push rule d v h p =
       let e = length-set cells d v in
       let top : d + 1 - 1 ≡ d = omega arith in
       record {
         seen = rw (top, add-one d, live_push d cells v h) p;
-        left = rw top (omega arith, record { deep = omega arith; stack = e ∙ g.stack; within = g.within; size = g.size; past = g.past; whole = g.whole });
+        left = rw top ((omega arith, omega arith), record { deep = omega arith; stack = e ∙ g.stack; within = g.within; size = g.size; past = g.past; whole = g.whole });
       }
 
   pub does_put : (rule : Rule) (d : ℕ) (n : Result) → d < length cells → resulting n (record { place = s.index / 2; stack = live d cells; outside = outside s room }) ≡ rule (machine_of s cells room) → Did lent before rule s cells room (puts s d n) room
   unfolding resulting pushed
   does_put rule d (value v) h p = does_push rule d v h p
-  does_put rule d (ends e) h p = stops rule e p
+  does_put rule d (ends e) h p = stopped rule e p
 
   -- ---- an instruction's tests, by the depth
 
@@ -96,13 +101,13 @@ module _ {lent : Lent} {before : List ℕ} {s : State} {cells : List ℤ} {room 
   loads k h = rw (length_live s.depth cells, sub-zero s.depth, lt-ltb k s.depth h, peek_live s.depth k cells h)
 
 -- a string that is closed is printed
-pub says : (lent : Lent) (q : ℕ) (line : Bool) (m : Machine) → cond (closed lent.text q) (prints lent (said line (string lent.text q)) m) (stop bad_code) ≡ decoded lent (as_instruction (PrintStr q line)) m
+pub says : (lent : Lent) (q : ℕ) (line : Bool) (m : Machine) → cond (closed lent.text q) (prints lent (said line (string lent.text q)) m) (stop bad_code) ≡ decoded lent (as_instruction (Some (PrintStr q line))) m
 unfolding said decoded tried effect names_well does
 says lent q true m = rw (le-ltb (length m.stack) 0 (omega arith), le-ltb (lent.cells - length m.stack) 0 (omega arith))
 says lent q false m = rw (le-ltb (length m.stack) 0 (omega arith), le-ltb (lent.cells - length m.stack) 0 (omega arith))
 
 -- what was decoded at an index, done at the state past it, is what the rule does next
-pub fetches : (lent : Lent) (o : Op) (t : State) (cells : List ℤ) (room : List ℕ) → t.index % 2 ≡ 0 → t.index < length lent.table → length lent.table % 2 ≡ 0 → as_instruction o ≡ decode (get_or lent.table t.index (pos 0)) (get_or lent.table (t.index + 1) (pos 0)) →
+pub fetches : (lent : Lent) (o : Option Op) (t : State) (cells : List ℤ) (room : List ℕ) → t.index % 2 ≡ 0 → t.index < length lent.table → length lent.table % 2 ≡ 0 → as_instruction o ≡ decode (get_or lent.table t.index (pos 0)) (get_or lent.table (t.index + 1) (pos 0)) →
     decoded lent (as_instruction o) (machine_of (moves_to t (t.index + 2) t.depth) cells room) ≡ step lent (machine_of t cells room)
 unfolding step fetched pairs
 fetches lent o t cells room w h l e =
@@ -116,7 +121,7 @@ unfolding jumped
 jumps_to s a d cells room = let e : a * 2 / 2 ≡ a = omega arith in rw e
 
 -- what one rule says at one state is what another says at another
-pub also : {lent : Lent} {before : List ℕ} {rule rule' : Rule} {s s' : State} {cells : List ℤ} {room room' : List ℕ} {r : Move} → Did lent before rule s cells room r room' → rule (machine_of s cells room) ≡ rule' (machine_of s' cells room) → Did lent before rule' s' cells room r room'
+pub also : {lent : Lent} {before : List ℕ} {rule rule' : Rule} {s s' : State} {cells : List ℤ} {room room' : List ℕ} {r : Led} → Did lent before rule s cells room r room' → rule (machine_of s cells room) ≡ rule' (machine_of s' cells room) → Did lent before rule' s' cells room r room'
 also d e = record { seen = d.seen ∙ e; left = d.left }
 
 -- a reading

@@ -1,24 +1,25 @@
 // The machine: any code table, one numbered ending.
 #![tactic(auto)]
 
-ghost use Rattle.std.specs.Prelude.{◌≡◌};
+ghost use Rattle.std.specs.Prelude.{◌≡◌, length};
 ghost use Rattle.rules.specs.Machine.{whole_run};
-ghost use Rattle.machine.specs.inner.Coded.{reports};
+ghost use Rattle.machine.specs.inner.Coded.{Names, state_of, cells_of, reports};
 ghost use Rattle.machine.specs.Promise.{lends, Reported, Ran};
 
+use endings::Ending;
 use moves::{Move, State};
 
 mod step;
 
-#[derive(Clone, Copy)]
+#[derive(Clone, Copy, PartialEq, Eq, Debug)]
 pub struct Report {
-    pub ending: u8,
+    pub ending: Ending,
     pub steps: u32,
     pub used: usize,
     pub length: usize,
 }
 
-fn ended(ending: u8, steps: u32, s: State) -> Report
+fn ended(ending: Ending, steps: u32, s: State) -> Report
     ensures { result ≡ reports ending steps s }
 {
     Report {
@@ -26,6 +27,25 @@ fn ended(ending: u8, steps: u32, s: State) -> Report
         steps,
         used: s.used,
         length: s.printed,
+    }
+}
+
+// A move's state, once the cell that it names is set.
+fn made(m: Move, stack: &mut [i32]) -> State
+    requires { Names m (length stack.old) }
+    ensures state { result ≡ state_of m }
+    ensures cells { stack.new ≡ cells_of m stack.old }
+{
+    match m {
+        Move::Go(t) => t,
+        Move::Put(t, v) => {
+            stack[t.depth - 1] = v;
+            t
+        }
+        Move::Set(t, k, v) => {
+            stack[k] = v;
+            t
+        }
     }
 }
 
@@ -46,30 +66,16 @@ fn follow(
         used: 0,
         printed: 0,
     };
-    let mut steps: u32 = 0;
     if table.len() % 2 != 0 {
-        return ended(endings::BAD_CODE, steps, s);
+        return ended(Ending::BadCode, 0, s);
     }
-    while steps < budget {
-        steps += 1;
+    for steps in 0..budget {
         match step::step(s, text, table, readings, stack, out) {
-            Move::Go(t) => {
-                s = t;
-            }
-            Move::Put(t, v) => {
-                stack[t.depth - 1] = v;
-                s = t;
-            }
-            Move::Set(t, k, v) => {
-                stack[k] = v;
-                s = t;
-            }
-            Move::Stop(e) => {
-                return ended(e, steps, s);
-            }
+            Ok(m) => s = made(m, stack),
+            Err(e) => return ended(e, steps + 1, s),
         }
     }
-    ended(endings::BUDGET_SPENT, steps, s)
+    ended(Ending::BudgetSpent, budget, s)
 }
 
 // A whole run of the table over the text and the readings, within the budget.

@@ -1,8 +1,10 @@
 // One instruction, from fetching it to the state after it.
 ghost use Rattle.std.specs.Prelude.{◌≡◌, length, ◌%◌, ◌≤◌};
 ghost use Rattle.rules.specs.Machine as M;
+ghost use Rattle.moves.specs.inner.Moves.{as_led};
 ghost use Rattle.machine.specs.inner.Coded.{Stepped};
 
+use endings::Ending;
 use instruction::decode::decode;
 use moves::{Move, State};
 use perform::perform;
@@ -15,29 +17,23 @@ pub fn step(
     readings: &[i32],
     cells: &[i32],
     out: &mut [u8],
-) -> Move
+) -> Result<Move, Ending>
     requires { (t.depth ≤ length cells.now) × ((t.index % 2 ≡ 0) × (length table.now % 2 ≡ 0)) }
-    ensures { (lent : M.Lent) → text.now ≡ lent.text → table.now ≡ lent.table → readings.now ≡ lent.readings → Stepped lent (M.step lent) t cells.now out.old result out.new }
+    ensures { (lent : M.Lent) → text.now ≡ lent.text → table.now ≡ lent.table → readings.now ≡ lent.readings → Stepped lent (M.step lent) t cells.now out.old (as_led result) out.new }
 {
     let i = t.index;
     if table.len() <= i {
-        return Move::Stop(endings::BAD_CODE);
+        return Err(Ending::BadCode);
     }
-    let o = decode(table[i], table[i + 1]);
-    let depth = t.depth;
-    let s = State {
-        index: i + 2,
-        depth,
-        used: t.used,
-        printed: t.printed,
-    };
+    let o = decode(table[i], table[i + 1]).ok_or(Ending::BadCode)?;
+    let s = State { index: i + 2, ..t };
     perform(
         s,
         o,
         table.len(),
         text,
         readings,
-        &cells[..depth],
+        &cells[..t.depth],
         cells.len(),
         out,
     )

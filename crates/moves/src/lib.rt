@@ -4,13 +4,14 @@
 #![tactic(auto)]
 
 ghost use Rattle.std.specs.Prelude.{◌≡◌, ◌+◌, ◌^◌, ◌<◌};
-ghost use Rattle.numbers.specs.inner.Coded.{as_result, as_two_sided};
-ghost use Rattle.moves.specs.inner.Moves.{moves_to, pushes, puts, push_int_move, load_stack_move, store_stack_move, jump_move, jump_if_false_move, two_sided_move, negate_move, not_move, read_move};
+ghost use Rattle.numbers.specs.inner.Coded.{as_two_sided};
+ghost use Rattle.moves.specs.inner.Moves.{as_led, moves_to, pushes, push_int_move, load_stack_move, store_stack_move, jump_move, jump_if_false_move, two_sided_move, negate_move, not_move, read_move};
 
-use numbers::arith::{Calculated, Operator, calculate, negated, truth};
+use endings::Ending;
+use numbers::arith::{Operator, calculate, negated, truth};
 
 // The machine between two instructions: the index of the next pair in the table, the stack's depth, the readings used, the bytes printed.
-#[derive(Clone, Copy)]
+#[derive(Clone, Copy, PartialEq, Eq, Debug)]
 pub struct State {
     pub index: usize,
     pub depth: usize,
@@ -18,25 +19,19 @@ pub struct State {
     pub printed: usize,
 }
 
-// What an instruction leads to: a state; a state once its top cell, or a cell that is named, holds a number; or an ending.
+// What an instruction leads to, where it has no ending: a state; or a state once its top cell, or a cell that is named, holds a number.
 // A push has a variant of its own: the compiled code then has no cell to hold beside the depth.
-#[derive(Clone, Copy)]
+#[derive(Clone, Copy, PartialEq, Eq, Debug)]
 pub enum Move {
     Go(State),
     Put(State, i32),
     Set(State, usize, i32),
-    Stop(u8),
 }
 
 pub fn moved(s: State, index: usize, depth: usize) -> State
     ensures { result ≡ moves_to s index depth }
 {
-    State {
-        index,
-        depth,
-        used: s.used,
-        printed: s.printed,
-    }
+    State { index, depth, ..s }
 }
 
 // A number on the d lowest cells.
@@ -47,127 +42,103 @@ fn push(s: State, d: usize, v: i32) -> Move
     Move::Put(moved(s, s.index, d + 1), v)
 }
 
-// What a calculation gives, on the d lowest cells.
-fn put(s: State, d: usize, n: Calculated) -> Move
-    requires { d + 1 < 2 ^ 64 }
-    ensures { result ≡ puts s d (as_result n) }
+#[tactic(auto, unfolding(crate::specs::inner::Moves::push_int_move))]
+pub fn push_int(s: State, cells: usize, v: i32) -> Result<Move, Ending>
+    ensures { as_led result ≡ push_int_move s cells v }
 {
-    match n {
-        Calculated::Value(v) => push(s, d, v),
-        Calculated::Ends(e) => Move::Stop(e),
+    if cells <= s.depth {
+        return Err(Ending::StackFull);
     }
+    Ok(push(s, s.depth, v))
 }
 
-pub fn push_int(s: State, cells: usize, v: i32) -> Move
-    ensures { result ≡ push_int_move s cells v }
+#[tactic(auto, unfolding(crate::specs::inner::Moves::load_stack_move))]
+pub fn load_stack(s: State, cells: usize, live: &[i32], k: usize) -> Result<Move, Ending>
+    ensures { as_led result ≡ load_stack_move s cells live.now k }
 {
-    let depth = s.depth;
-    if cells <= depth {
-        return Move::Stop(endings::STACK_FULL);
-    }
-    push(s, depth, v)
+    let v = live.get(k).ok_or(Ending::BadCode)?;
+    push_int(s, cells, *v)
 }
 
-pub fn load_stack(s: State, cells: usize, live: &[i32], k: usize) -> Move
-    ensures { result ≡ load_stack_move s cells live.now k }
+#[tactic(auto, unfolding(crate::specs::inner::Moves::store_stack_move))]
+pub fn store_stack(s: State, live: &[i32], k: usize) -> Result<Move, Ending>
+    ensures { as_led result ≡ store_stack_move s live.now k }
 {
-    if live.len() <= k {
-        return Move::Stop(endings::BAD_CODE);
-    }
-    push_int(s, cells, live[k])
-}
-
-pub fn store_stack(s: State, live: &[i32], k: usize) -> Move
-    ensures { result ≡ store_stack_move s live.now k }
-{
-    let depth = live.len();
-    if depth < 1 {
-        return Move::Stop(endings::BAD_CODE);
-    }
-    let d = depth - 1;
-    if d <= k {
-        return Move::Stop(endings::BAD_CODE);
-    }
-    Move::Set(moved(s, s.index, d), k, live[d])
-}
-
-pub fn jump(s: State, size: usize, a: usize) -> Move
-    ensures { result ≡ jump_move s size a }
-{
-    if size / 2 <= a {
-        return Move::Stop(endings::BAD_CODE);
-    }
-    Move::Go(moved(s, a * 2, s.depth))
-}
-
-pub fn jump_if_false(s: State, live: &[i32], size: usize, a: usize) -> Move
-    ensures { result ≡ jump_if_false_move s live.now size a }
-{
-    let depth = live.len();
-    if depth < 1 {
-        return Move::Stop(endings::BAD_CODE);
-    }
-    if size / 2 <= a {
-        return Move::Stop(endings::BAD_CODE);
-    }
-    let d = depth - 1;
-    if live[d] == 0 {
-        return Move::Go(moved(s, a * 2, d));
-    }
-    Move::Go(moved(s, s.index, d))
-}
-
-pub fn two_sided(s: State, live: &[i32], k: Operator) -> Move
-    ensures { result ≡ two_sided_move s live.now (as_two_sided k) }
-{
-    let depth = live.len();
-    if depth < 2 {
-        return Move::Stop(endings::BAD_CODE);
-    }
-    let d = depth - 2;
-    let a = live[d];
-    let b = live[depth - 1];
-    put(s, d, calculate(k, a, b))
-}
-
-pub fn negate(s: State, live: &[i32]) -> Move
-    ensures { result ≡ negate_move s live.now }
-{
-    let depth = live.len();
-    if depth < 1 {
-        return Move::Stop(endings::BAD_CODE);
-    }
-    let d = depth - 1;
-    put(s, d, negated(live[d]))
-}
-
-pub fn not(s: State, live: &[i32]) -> Move
-    ensures { result ≡ not_move s live.now }
-{
-    let depth = live.len();
-    if depth < 1 {
-        return Move::Stop(endings::BAD_CODE);
-    }
-    let d = depth - 1;
-    push(s, d, truth(live[d] == 0))
-}
-
-pub fn read(s: State, cells: usize, readings: &[i32]) -> Move
-    ensures { result ≡ read_move s cells readings.now }
-{
-    let depth = s.depth;
-    let used = s.used;
-    if cells <= depth {
-        return Move::Stop(endings::STACK_FULL);
-    }
-    if readings.len() <= used {
-        return Move::Stop(endings::NO_READING_LEFT);
-    }
-    let t = State {
-        index: s.index,
-        depth: depth + 1,
-        used: used + 1,
-        printed: s.printed,
+    let [rest @ .., v] = live else {
+        return Err(Ending::BadCode);
     };
-    Move::Put(t, readings[used])
+    if rest.len() <= k {
+        return Err(Ending::BadCode);
+    }
+    Ok(Move::Set(moved(s, s.index, rest.len()), k, *v))
+}
+
+#[tactic(auto, unfolding(crate::specs::inner::Moves::jump_move))]
+pub fn jump(s: State, size: usize, a: usize) -> Result<Move, Ending>
+    ensures { as_led result ≡ jump_move s size a }
+{
+    if size / 2 <= a {
+        return Err(Ending::BadCode);
+    }
+    Ok(Move::Go(moved(s, a * 2, s.depth)))
+}
+
+#[tactic(auto, unfolding(crate::specs::inner::Moves::jump_if_false_move))]
+pub fn jump_if_false(s: State, live: &[i32], size: usize, a: usize) -> Result<Move, Ending>
+    ensures { as_led result ≡ jump_if_false_move s live.now size a }
+{
+    let [rest @ .., v] = live else {
+        return Err(Ending::BadCode);
+    };
+    if size / 2 <= a {
+        return Err(Ending::BadCode);
+    }
+    let index = if *v == 0 { a * 2 } else { s.index };
+    Ok(Move::Go(moved(s, index, rest.len())))
+}
+
+#[tactic(auto, unfolding(crate::specs::inner::Moves::two_sided_move))]
+pub fn two_sided(s: State, live: &[i32], k: Operator) -> Result<Move, Ending>
+    ensures { as_led result ≡ two_sided_move s live.now (as_two_sided k) }
+{
+    let [rest @ .., a, b] = live else {
+        return Err(Ending::BadCode);
+    };
+    Ok(push(s, rest.len(), calculate(k, *a, *b)?))
+}
+
+#[tactic(auto, unfolding(crate::specs::inner::Moves::negate_move))]
+pub fn negate(s: State, live: &[i32]) -> Result<Move, Ending>
+    ensures { as_led result ≡ negate_move s live.now }
+{
+    let [rest @ .., v] = live else {
+        return Err(Ending::BadCode);
+    };
+    Ok(push(s, rest.len(), negated(*v)?))
+}
+
+#[tactic(auto, unfolding(crate::specs::inner::Moves::not_move))]
+pub fn not(s: State, live: &[i32]) -> Result<Move, Ending>
+    ensures { as_led result ≡ not_move s live.now }
+{
+    let [rest @ .., v] = live else {
+        return Err(Ending::BadCode);
+    };
+    Ok(push(s, rest.len(), truth(*v == 0)))
+}
+
+#[tactic(auto, unfolding(crate::specs::inner::Moves::read_move))]
+pub fn read(s: State, cells: usize, readings: &[i32]) -> Result<Move, Ending>
+    ensures { as_led result ≡ read_move s cells readings.now }
+{
+    if cells <= s.depth {
+        return Err(Ending::StackFull);
+    }
+    let v = readings.get(s.used).ok_or(Ending::NoReadingLeft)?;
+    let t = State {
+        depth: s.depth + 1,
+        used: s.used + 1,
+        ..s
+    };
+    Ok(Move::Put(t, *v))
 }

@@ -5,13 +5,12 @@ use mathlib.Core.List.{List, [], ◌∷◌, ◌++◌}
 use Prim.Native.Nat.{ℕ, zero, suc, ◌+◌, ◌/◌, ◌%◌, ◌^◌, ◌≤◌, ◌<◌}
 use native.Mathlib.Nat.{pow-succ'}
 use native.Mathlib.Omega.{arith}
-use lib.Dec.{T, ltb}
-use lib.IntN.{ℤ, pos, negsuc, neg_ℤ, nat_abs}
-use lib.Signed.{lt_z, non_neg}
+use lib.Dec.{ltb}
+use lib.IntN.{ℤ, pos, negsuc, nat_abs}
+use lib.Signed.{lt_z}
 use lib.ListN.{length, length-append}
 use borrow.Author.Tests.{ltb-true, ltb-false, lt-ltb, le-ltb}
 use Rattle.numbers.specs.Numbers.{digits, decimal}
-use Rattle.numbers.proofs.Signed.{no}
 
 abbrev pub all_digits : ℕ → List ℕ
 all_digits n = digits (suc n) n
@@ -54,20 +53,7 @@ few_digits (suc k) n h = few_by (suc k) n (ltb n 10) refl (λ (p : 10 ≤ n). fe
 
 -- ---- the sign
 
-pub neg_nonNeg : (v : ℤ) → lt_z v (pos 0) ≡ true → T (non_neg (neg_ℤ v))
-neg_nonNeg (pos n) h = absurd (omega (arith, ltb-true n 0 h))
-neg_nonNeg (negsuc n) h = tt
-
-pub neg_natAbs : (v : ℤ) → lt_z v (pos 0) ≡ true → nat_abs (neg_ℤ v) ≡ nat_abs v
-neg_natAbs (pos n) h = absurd (omega (arith, ltb-true n 0 h))
-neg_natAbs (negsuc n) h = refl
-
 pub decimal_below : (v : ℤ) → lt_z v (pos 0) ≡ true → decimal v ≡ 45 ∷ all_digits (nat_abs v)
 unfolding decimal
 decimal_below (pos n) h = absurd (omega (arith, ltb-true n 0 h))
 decimal_below (negsuc n) h = refl
-
-pub decimal_above : (v : ℤ) → lt_z v (pos 0) ≡ false → decimal v ≡ all_digits (nat_abs v)
-unfolding decimal
-decimal_above (pos n) h = refl
-decimal_above (negsuc n) h = absurd (no h)

@@ -3,19 +3,20 @@
 
 ghost use Rattle.std.specs.Prelude.{◌≡◌};
 ghost use Rattle.numbers.specs.inner.Coded.{as_two_sided};
-ghost use Rattle.moves.specs.inner.Moves.{two_sided_move};
+ghost use Rattle.moves.specs.inner.Moves.{as_led, two_sided_move};
 ghost use Rattle.perform.specs.inner.Prints.{Performed};
 ghost use Rattle.perform.specs.inner.Asks.{asked};
 
+use endings::Ending;
 use instruction::decode::Op;
 use moves::{Move, State};
 use numbers::arith::Operator;
 
 mod print;
 
-// Each operator is handed in by its own arm, so that a step tells the operators apart once.
-fn operate(s: State, live: &[i32], k: Operator) -> Move
-    ensures { result ≡ two_sided_move s live.now (as_two_sided k) }
+// Each operator is handed in by its own arm, so that a step tells the operators apart once: two instructions a step less than one call for all.
+fn operate(s: State, live: &[i32], k: Operator) -> Result<Move, Ending>
+    ensures { as_led result ≡ two_sided_move s live.now (as_two_sided k) }
 {
     match k {
         Operator::Plus => moves::two_sided(s, live, Operator::Plus),
@@ -29,6 +30,7 @@ fn operate(s: State, live: &[i32], k: Operator) -> Move
 }
 
 // The live cells are the lowest of a stack of as many as `cells`, and `size` is the table's.
+#[tactic(auto, unfolding(crate::specs::inner::Asks::asked, crate::specs::inner::Prints::print_move, crate::specs::inner::Prints::print_room))]
 pub fn perform(
     s: State,
     o: Op,
@@ -38,12 +40,11 @@ pub fn perform(
     live: &[i32],
     cells: usize,
     out: &mut [u8],
-) -> Move
-    ensures { Performed (asked s size text.now readings.now live.now cells o) out.old result out.new }
+) -> Result<Move, Ending>
+    ensures { Performed (asked s size text.now readings.now live.now cells o) out.old (as_led result) out.new }
 {
     match o {
-        Op::Bad => Move::Stop(endings::BAD_CODE),
-        Op::Halt(h) => Move::Stop(h),
+        Op::Halt(e) => Err(e),
         Op::PushInt(v) => moves::push_int(s, cells, v),
         Op::LoadStack(k) => moves::load_stack(s, cells, live, k),
         Op::StoreStack(k) => moves::store_stack(s, live, k),

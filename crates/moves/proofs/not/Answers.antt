@@ -1,16 +1,17 @@
 -- `not` meets its contract. Assumes nothing.
-use borrow.Author.Tests.{lt-ltb, le-ltb}
+use Rattle.std.proofs.Common.{arith, rules, ◌-◌, pos, length, get_or, length-take, ℤ}
 use mir.Syntax.{w32}
+use mir.Val.{SFits}
 use mir.Facts.{to_z-of_z}
 use Rattle.numbers.specs.Numbers.{negation}
 use Rattle.numbers.proofs.Signed.{zero_test}
 use Rattle.moves.specs.inner.Moves.{not_move}
 use Rattle.moves.proofs.not.Goals as goal
 
-pub returns-then-depth-lt1 : goal.returns-then-depth-lt1
-unfolding not_move negation
-returns-then-depth-lt1 c = rw (lt-ltb _ _ c.if-depth-lt1.true)
-
 pub returns : goal.returns
 unfolding not_move negation
-returns c = rw (le-ltb _ _ c.if-depth-lt1.false, ← zero_test _ (record { sfits = c.truth-arg-1.given }), ← c.truth.ensures) (rw (to_z-of_z {w = w32} (record { sfits = c.truth.type_inv })) at c.push.ensures)
+returns c =
+    let live = c.args.live.now in
+    let f : SFits w32 (get_or live (length live - 1) (pos 0)) = search rules in
+    let z = zero_test _ f in
+    grind (arith, to_z-of_z, length-take {A = ℤ}, c.truth.ensures, z)

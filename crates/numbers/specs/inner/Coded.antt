@@ -1,13 +1,15 @@
 -- How the code holds results and operators: what each of its values means in the definitions.
+use Rattle.std.specs.Prelude.{ℤ, Ok, Err}
+use Rattle.std.specs.Prelude as Std
+use Rattle.endings.specs.Endings.{number_of}
+use Rattle.endings.specs.declared.Ending.{Ending}
 use Rattle.numbers.specs.Numbers.{Result, value, ends, TwoSidedOperation, plus, minus, times, divide, equals, smaller, greater}
-use Rattle.numbers.specs.declared.arith.Calculated.{Calculated}
-use Rattle.numbers.specs.declared.arith.Calculated.TheVariants.{Value, Ends}
 use Rattle.numbers.specs.declared.arith.Operator.{Operator}
 use Rattle.numbers.specs.declared.arith.Operator.TheVariants.{Plus, Minus, Times, Divide, Equals, Smaller, Greater}
 
-abbrev pub as_result : Calculated → Result
-as_result (Value v) = value v
-as_result (Ends e) = ends e
+abbrev pub as_result : Std.Result ℤ Ending → Result
+as_result (Ok v) = value v
+as_result (Err e) = ends (number_of e)
 
 abbrev pub as_two_sided : Operator → TwoSidedOperation
 as_two_sided Plus = plus

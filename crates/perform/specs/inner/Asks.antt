@@ -1,18 +1,16 @@
 -- What was decoded, as what it asks for at a state that is past it.
 use Rattle.std.specs.Prelude.{List, ℕ, ℤ}
-use Rattle.endings.specs.Endings.{bad_code}
+use Rattle.endings.specs.Endings.{number_of}
 use Rattle.numbers.specs.inner.Coded.{as_two_sided}
 use Rattle.instruction.specs.declared.decode.Op.{Op}
-use Rattle.instruction.specs.declared.decode.Op.TheVariants.{Bad, Halt, PushInt, LoadStack, StoreStack, Jump, JumpIfFalse, TwoSided, Negate, Not, Read, PrintInt, PrintStr}
-use Rattle.moves.specs.inner.Moves.{push_int_move, load_stack_move, store_stack_move, jump_move, jump_if_false_move, two_sided_move, negate_move, not_move, read_move}
+use Rattle.instruction.specs.declared.decode.Op.TheVariants.{Halt, PushInt, LoadStack, StoreStack, Jump, JumpIfFalse, TwoSided, Negate, Not, Read, PrintInt, PrintStr}
+use Rattle.moves.specs.inner.Moves.{stops, push_int_move, load_stack_move, store_stack_move, jump_move, jump_if_false_move, two_sided_move, negate_move, not_move, read_move}
 use Rattle.moves.specs.declared.State.{State}
-use Rattle.moves.specs.declared.Move.TheVariants.{Stop}
 use Rattle.perform.specs.inner.Prints.{Asked, silent, asked_str, asked_int}
 
 -- `size` is the table's length, `live` the live cells, and `cells` how many the stack has
 unfoldable pub asked : State → ℕ → List ℕ → List ℤ → List ℤ → ℕ → Op → Asked
-asked s size text readings live cells Bad = silent (Stop bad_code)
-asked s size text readings live cells (Halt h) = silent (Stop h)
+asked s size text readings live cells (Halt e) = silent (stops (number_of e))
 asked s size text readings live cells (PushInt v) = silent (push_int_move s cells v)
 asked s size text readings live cells (LoadStack k) = silent (load_stack_move s cells live k)
 asked s size text readings live cells (StoreStack k) = silent (store_stack_move s live k)

@@ -5,26 +5,25 @@ use Rattle.base.specs.Bytes.{no_quote, run}
 use Rattle.rooms.specs.inner.Rooms.{said, with_bytes}
 use Rattle.endings.specs.Endings.{print_does_not_fit, bad_code}
 use Rattle.numbers.specs.Numbers.{decimal}
-use Rattle.moves.specs.inner.Moves.{moves_to}
+use Rattle.moves.specs.inner.Moves.{Led, leads, stops, moves_to}
 use Rattle.moves.specs.declared.State.{State}
-use Rattle.moves.specs.declared.Move.{Move}
-use Rattle.moves.specs.declared.Move.TheVariants.{Go, Stop}
+use Rattle.moves.specs.declared.Move.TheVariants.{Go}
 
--- what is asked for: a move, and no print; or bytes, at a state
+-- what is asked for: what it leads to, and no print; or bytes, at a state
 pub data Asked : Type 0 where
-  silent : Move → Asked
+  silent : Led → Asked
   print : State → List ℕ → Asked
 
 -- the bytes fit after those that are printed
 abbrev pub fits : State → List ℕ → List ℕ → Bool
 fits s bs room = leb (s.printed + length bs) (length room)
 
-unfoldable pub print_move : Asked → List ℕ → Move
+unfoldable pub print_move : Asked → List ℕ → Led
 print_move (silent m) room = m
 print_move (print s bs) room =
     cond (fits s bs room)
-    (Go (record { index = s.index; depth = s.depth; used = s.used; printed = s.printed + length bs }))
-    (Stop print_does_not_fit)
+    (leads (Go (record s { printed = s.printed + length bs })))
+    (stops print_does_not_fit)
 
 -- what does not fit leaves the room as it was
 unfoldable pub print_room : Asked → List ℕ → List ℕ
@@ -32,7 +31,7 @@ print_room (silent m) room = room
 print_room (print s bs) room = cond (fits s bs room) (with_bytes room s.printed bs) room
 
 -- the answer r, and the room after it
-pub record Performed (a : Asked) (room : List ℕ) (r : Move) (room' : List ℕ) : Type 0 where
+pub record Performed (a : Asked) (room : List ℕ) (r : Led) (room' : List ℕ) : Type 0 where
   pub answer : r ≡ print_move a room
   pub bytes : room' ≡ print_room a room
 
@@ -42,10 +41,10 @@ pub record Performed (a : Asked) (room : List ℕ) (r : Move) (room' : List ℕ)
 unfoldable pub asked_str : State → List ℕ → ℕ → Bool → Asked
 asked_str s text q line =
     let bs = run no_quote (drop q text) in
-    cond (leb (length text) (q + length bs)) (silent (Stop bad_code)) (print s (said line bs))
+    cond (leb (length text) (q + length bs)) (silent (stops bad_code)) (print s (said line bs))
 
 -- the value on top, which is the last of the live cells
 unfoldable pub asked_int : State → List ℤ → Asked
 asked_int s live =
     let d = length live - 1 in
-    cond (ltb (length live) 1) (silent (Stop bad_code)) (print (moves_to s s.index d) (decimal (get_or live d (pos 0))))
+    cond (ltb (length live) 1) (silent (stops bad_code)) (print (moves_to s s.index d) (decimal (get_or live d (pos 0))))

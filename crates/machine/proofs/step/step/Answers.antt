@@ -8,30 +8,48 @@ use lib.ListN.{length, get_or}
 use lib.Seq.{length-take-le}
 use mir.Syntax.{w32}
 use mir.Facts.{to_z-of_z}
-use Rattle.moves.specs.inner.Moves.{moves_to}
+use Rattle.std.specs.Prelude.{List, ℕ, ℤ, None}
+use Rattle.std.proofs.lemmas.Grind.{common_steps}
+use Rattle.endings.specs.Endings.{bad_code}
+use Rattle.instruction.specs.inner.Coded.{as_instruction}
+use Rattle.moves.specs.declared.State.{State}
+use Rattle.moves.specs.inner.Moves.{as_led, stops, moves_to}
 use Rattle.rules.specs.Machine as M
-use Rattle.machine.specs.inner.Coded.{Good}
+use Rattle.machine.specs.inner.Coded.{machine_of, Good}
 use Rattle.machine.proofs.Performs.{performs}
-use Rattle.machine.proofs.Steps.{stops, also, fetches}
+use Rattle.machine.proofs.Steps.{stopped, barred, also, fetches}
 use Rattle.machine.proofs.step.step.Goals as goal
+use Rattle.machine.proofs.step.step.Goals.{After-decode}
 
 pub returns-then-table-i : goal.returns-then-table-i
 unfolding M.step M.fetched M.pairs M.decoded
 returns-then-table-i c = λ lent x e r before g.
     let past : length lent.table ≤ c.args.t.index = rw (← e) c.if-table-i.true in
-    stops g _ 8 (rw (le-ltb (c.args.t.index / 2) (length lent.table / 2) (omega arith)))
+    stopped g _ 8 (rw (le-ltb (c.args.t.index / 2) (length lent.table / 2) (omega arith)))
 
 -- the live cells that are handed on are as many as the depth
 pub slice_bounds-perform-end : goal.slice_bounds-perform-end
 slice_bounds-perform-end c = sym (length-take-le _ _ c.requires.0)
 
--- what was decoded is what the rule does next
-pub returns : goal.returns
-returns c = λ lent x e r before g.
-    let i = c.args.t.index in
-    let decoded = rw (to_z-of_z {w = w32} {z = get_or c.args.table.now i (pos 0)} (record { sfits = c.decode-arg-1.given }), to_z-of_z {w = w32} (record { sfits = c.decode-arg-2-1.given }), e) at c.decode-o.ensures in
-    let within : i < length lent.table = rw (← e) c.if-table-i.false in
+-- what was decoded at the index, done at the state past it, is what the rule does next
+next : (c : After-decode) {lent : M.Lent} {before : List ℕ} → c.args.table.now ≡ lent.table → Good lent before c.args.t c.args.cells.now c.args.out.now →
+    M.decoded lent (as_instruction c.decode.result) (machine_of (moves_to c.args.t (c.args.t.index + 2) c.args.t.depth) c.args.cells.now c.args.out.now) ≡ M.step lent (machine_of c.args.t c.args.cells.now c.args.out.now)
+next c {lent} e g =
+    let decoded = rw (to_z-of_z {w = w32} {z = get_or c.args.table.now c.args.t.index (pos 0)} (record { sfits = c.decode-arg-1.given }), to_z-of_z {w = w32} (record { sfits = c.decode-arg-2-1.given }), e) at c.decode.ensures in
+    let within : c.args.t.index < length lent.table = rw (← e) c.if-table-i.false in
     let even : length lent.table % 2 ≡ 0 = rw (← e) c.requires.1.1 in
-    let good : Good lent before (moves_to c.args.t (i + 2) c.args.t.depth) c.args.cells.now c.args.out.now = record { deep = g.deep; stack = g.stack; within = g.within; size = g.size; past = g.past; whole = omega (arith, g.whole) } in
-    also (performs good c.decode-o.result x e r c.perform.ensures)
-    (fetches lent c.decode-o.result c.args.t c.args.cells.now c.args.out.now g.whole within even decoded)
+    fetches lent c.decode.result c.args.t c.args.cells.now c.args.out.now g.whole within even decoded
+
+-- the state past it
+past : {lent : M.Lent} {before : List ℕ} {t : State} {cells : List ℤ} {room : List ℕ} → Good lent before t cells room → Good lent before (moves_to t (t.index + 2) t.depth) cells room
+past g = record { deep = g.deep; stack = g.stack; within = g.within; size = g.size; past = g.past; whole = omega (arith, g.whole) }
+
+pub returns-in_err-o : goal.returns-in_err-o
+returns-in_err-o c =
+    let e : as_led c.from_residual.result ≡ stops bad_code = grind (arith, common_steps) in
+    let none : c.decode.result ≡ None = c.in_err-o.ensures.ok_part in
+    rw e (λ lent x t r before g. also (barred (past g)) (rw none at (next (goal.at.returns-in_err-o c).After-decode t g)))
+
+pub returns : goal.returns
+returns c = λ lent x t r before g.
+    also (performs (past g) c.in_ok-o.o x t r c.perform.ensures) (rw c.in_ok-o.ensures.ok_part at (next (goal.at.returns c).After-decode t g))
