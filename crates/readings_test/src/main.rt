@@ -11,47 +11,29 @@ fn say(rt: &HostRuntime, text: &[u8]) -> io::Result<()> {
     rt.stdout().write_all(text)
 }
 
-fn say_spaced(rt: &HostRuntime, z: i32) -> io::Result<()> {
-    let mut page = [0u8; 20];
-    let n = lines::put_spaced(&mut page, 0, z);
-    say(rt, base::part(&page, 0, n))
-}
-
 // The numbers from a place up to another.
 fn say_numbers(rt: &HostRuntime, numbers: &[i32], from: usize, to: usize) -> io::Result<()> {
-    let mut i = from;
-    while i < to {
-        if numbers.len() <= i {
-            return Ok(());
-        }
-        say_spaced(rt, numbers[i])?;
-        i += 1;
+    for z in numbers.iter().take(to).skip(from) {
+        print!(rt; " {z}")?;
     }
     Ok(())
 }
 
 // Of many readings the last two are said.
 fn first_said(n: usize) -> usize {
-    if n < 9 {
-        return 0;
-    }
-    n - 2
+    if n < 9 { 0 } else { n - 2 }
 }
 
 fn say_readings(rt: &HostRuntime, numbers: &[i32], n: usize) -> io::Result<()> {
-    say(rt, b": ")?;
-    print!(rt; "{n}")?;
-    say(rt, b" readings:")?;
+    print!(rt; ": {n} readings:")?;
     say_numbers(rt, numbers, first_said(n), n)
 }
 
 // A chunk so many times.
 fn again(chunk: &[u8], times: usize, numbers: &mut [i32]) -> Reader {
     let mut reader = start();
-    let mut i = 0;
-    while i < times {
+    for _ in 0..times {
         reader = more(reader, chunk, numbers);
-        i += 1;
     }
     reader
 }
@@ -78,26 +60,24 @@ fn show(rt: &HostRuntime, c: &[u8]) -> io::Result<()> {
     say_readings(rt, &numbers, n)
 }
 
-fn say_over(rt: &HostRuntime, over: bool) -> io::Result<()> {
-    if !over {
-        say(rt, b"not ")?;
-    }
-    say(rt, b"over")
-}
-
 // What is told after one chunk more.
 fn told(rt: &HostRuntime, r: Reader, chunk: &[u8], numbers: &mut [i32]) -> io::Result<Reader> {
     let s = more(r, chunk, numbers);
-    say_over(rt, is_over(s, numbers))?;
+    let told = if is_over(s, numbers) {
+        "over"
+    } else {
+        "not over"
+    };
+    print!(rt; "{told}")?;
     Ok(s)
 }
 
 fn tell(rt: &HostRuntime, c: &[u8]) -> io::Result<()> {
     let mut numbers = [0i32; 4096];
     let r = before(c, b'|', &mut numbers);
-    say(rt, b": ")?;
+    print!(rt; ": ")?;
     let s = told(rt, r, rows::nth(c, b'|', 1), &mut numbers)?;
-    say(rt, b", then ")?;
+    print!(rt; ", then ")?;
     told(rt, s, rows::nth(c, b'|', 2), &mut numbers)?;
     Ok(())
 }
@@ -113,11 +93,9 @@ fn case(rt: &HostRuntime, c: &[u8]) -> io::Result<()> {
 
 fn each(rt: &HostRuntime, all: &[u8]) -> io::Result<()> {
     let n = cases::count(all, cases::END);
-    let mut i = 0;
-    while i < n {
+    for i in 0..n {
         case(rt, rows::nth(all, cases::END, i))?;
-        say(rt, b"\n")?;
-        i += 1;
+        println!(rt)?;
     }
     Ok(())
 }
