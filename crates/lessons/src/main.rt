@@ -40,7 +40,7 @@ fn lesson(rt: &HostRuntime, name: &str, readings: &str) -> io::Result<bool> {
     Ok(true)
 }
 
-// The text of each lesson, and its readings.
+// The text of each lesson, and its readings. Whole names: one that is put together would be a `String`, which is heap.
 const LESSONS: [(&str, &str); 9] = [
     ("bench_switch.o", "bench_switch.readings"),
     ("ice_bowl.o", "ice_bowl.readings"),

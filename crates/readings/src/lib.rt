@@ -9,7 +9,7 @@ ghost use Rattle.readings.specs.Taken.{taken_in};
 
 use reading::{Phase, number_in_range, word_more};
 
-// Where the input stands, and how many readings are stored.
+// Where the input stands, and how many readings are stored. The numbers are lent beside it: of a `&mut` in it each contract would say besides that it stays the same borrow.
 #[derive(Clone, Copy, PartialEq, Eq, Debug)]
 pub struct Reader {
     pub phase: Phase,
@@ -17,7 +17,7 @@ pub struct Reader {
 }
 
 // A number is stored if it is in range and there is room; else the readings are over.
-#[tactic(auto, using(std::proofs::lemmas::Bool::Decides::nat_tests, std::proofs::lemmas::Int::ints), unfolding(reading::specs::Reading::number_in_range, crate::specs::inner::Steps::stored))]
+#[tactic(auto, using(std::proofs::lemmas::Bool::Decides::nat_tests, std::proofs::lemmas::Int::ints), unfolding(crate::specs::inner::Steps::stored))]
 fn store(negative: bool, n: u32, count: usize, numbers: &mut [i32]) -> Reader
     ensures { record { reader = result; numbers = numbers.new } ≡ stored (number_in_range negative n) count numbers.old }
 {
