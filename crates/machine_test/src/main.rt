@@ -3,8 +3,6 @@
 // and writes a line for each: label, ending, steps, readings used, output, and whether the room past it is untouched and the stack clean.
 #![tactic(auto)]
 
-ghost use Rattle.std.specs.Prelude.{◌≤◌};
-
 use machine::Report;
 use std::io;
 use std::io::Write;
@@ -18,116 +16,70 @@ fn say(rt: &HostRuntime, bytes: &[u8]) -> io::Result<()> {
     rt.stdout().write_all(bytes)
 }
 
-fn say_number(rt: &HostRuntime, name: &[u8], n: u64) -> io::Result<()> {
-    say(rt, name)?;
-    print!(rt; "{n}")
+fn say_report(rt: &HostRuntime, r: Report) -> io::Result<()> {
+    let ending = endings::number(r.ending);
+    print!(rt; ": ending {ending} steps {} used {}", r.steps, r.used)
 }
 
-fn say_numbers(rt: &HostRuntime, r: Report) -> io::Result<()> {
-    say_number(rt, b": ending ", r.ending as u64)?;
-    say_number(rt, b" steps ", r.steps as u64)?;
-    say_number(rt, b" used ", r.used as u64)
-}
-
-// The output, a line end as \n.
-fn say_lines(rt: &HostRuntime, out: &[u8]) -> io::Result<()> {
-    let n = cases::count(out, b'\n');
-    let mut i = 0;
-    while i < n {
-        say(rt, rows::nth(out, b'\n', i))?;
-        say(rt, b"\\n")?;
-        i += 1;
+// Between quotes, a line end as \n.
+fn say_output(rt: &HostRuntime, out: &[u8]) -> io::Result<()> {
+    print!(rt; " \"")?;
+    for b in out {
+        if *b == b'\n' {
+            print!(rt; "\\n")?;
+        } else {
+            say(rt, &[*b])?;
+        }
     }
-    say(rt, rows::nth(out, b'\n', n))
+    print!(rt; "\"")
 }
 
-fn say_whether(rt: &HostRuntime, so: bool, what: &[u8]) -> io::Result<()> {
+fn say_whether(rt: &HostRuntime, so: bool, what: &str) -> io::Result<()> {
     if !so {
-        say(rt, b" NOT")?;
+        print!(rt; " NOT")?;
     }
-    say(rt, what)
+    print!(rt; " {what}")
 }
 
 fn is_untouched(room: &[u8]) -> bool {
-    base::is_same(room, base::part(&[MARK; 64], 0, room.len()))
-}
-
-// Between quotes.
-fn say_output(rt: &HostRuntime, out: &[u8]) -> io::Result<()> {
-    say(rt, b" \"")?;
-    say_lines(rt, out)?;
-    say(rt, b"\"")
-}
-
-fn say_room(rt: &HostRuntime, room: &[u8], length: usize) -> io::Result<()> {
-    say_output(rt, base::part(room, 0, length))?;
-    say_whether(
-        rt,
-        is_untouched(base::part(room, length, 64)),
-        b" room untouched",
-    )
+    room.iter().all(|b| *b == MARK)
 }
 
 // The cells that were lent are 0, and no other was touched.
 fn is_clean(stack: &[i32], lent: usize) -> bool {
-    for i in 0..stack.len() {
-        if stack[i] != (if i < lent { 0 } else { DIRT }) {
-            return false;
-        }
-    }
-    true
+    stack.iter().take(lent).all(|n| *n == 0) && stack.iter().skip(lent).all(|n| *n == DIRT)
 }
 
-// A number below zero stands for the largest.
-fn natural(n: i32) -> u32 {
-    if n < 0 {
-        return 4294967295;
-    }
-    n as u32
-}
-
-fn at_most(n: u32, limit: usize) -> usize
-    ensures { result ≤ limit }
-{
-    if (n as usize) < limit {
-        n as usize
-    } else {
-        limit
-    }
+// The budget, and how many cells and bytes are lent.
+#[derive(Clone, Copy)]
+struct Lent {
+    budget: u32,
+    cells: usize,
+    room: usize,
 }
 
 // A run that is lent the first cells of a stack and the first bytes of a room.
-fn lend(
-    text: &[u8],
-    table: &[i32],
-    readings: &[i32],
-    l: Lent,
-    stack: &mut [i32],
-    room: &mut [u8],
-) -> Report {
-    let c = at_most(l.cells, stack.len());
-    let n = at_most(l.room, room.len());
-    machine::run(
+fn run(rt: &HostRuntime, text: &[u8], table: &[i32], readings: &[i32], l: Lent) -> io::Result<()> {
+    let mut stack = [DIRT; 8];
+    let mut room = [MARK; 64];
+    let cells = l.cells.min(8);
+    let bytes = l.room.min(64);
+    let r = machine::run(
         text,
         table,
         readings,
         l.budget,
-        &mut stack[..c],
-        &mut room[..n],
-    )
-}
-
-fn say_stack(rt: &HostRuntime, stack: &[i32], lent: u32) -> io::Result<()> {
-    say_whether(rt, is_clean(stack, lent as usize), b" stack clean\n")
-}
-
-fn run(rt: &HostRuntime, text: &[u8], table: &[i32], readings: &[i32], l: Lent) -> io::Result<()> {
-    let mut stack = [DIRT; 8];
-    let mut room = [MARK; 64];
-    let r = lend(text, table, readings, l, &mut stack, &mut room);
-    say_numbers(rt, r)?;
-    say_room(rt, &room, r.length)?;
-    say_stack(rt, &stack, l.cells)
+        &mut stack[..cells],
+        &mut room[..bytes],
+    );
+    say_report(rt, r)?;
+    say_output(rt, base::part(&room, 0, r.length))?;
+    say_whether(
+        rt,
+        is_untouched(base::part(&room, r.length, 64)),
+        "room untouched",
+    )?;
+    say_whether(rt, is_clean(&stack, l.cells), "stack clean\n")
 }
 
 // The numbers of some bytes, and how many.
@@ -137,60 +89,53 @@ fn numbers(bytes: &[u8], into: &mut [i32]) -> usize {
 }
 
 fn first(numbers: &[i32], n: usize) -> &[i32] {
-    if numbers.len() <= n {
-        return numbers;
-    }
-    &numbers[..n]
+    numbers.get(..n).unwrap_or(numbers)
 }
 
-// The budget, and how many cells and bytes are lent.
-#[derive(Clone, Copy)]
-struct Lent {
-    budget: u32,
-    cells: u32,
-    room: u32,
+// A number below zero stands for the largest.
+fn natural(n: i32) -> u32 {
+    u32::try_from(n).unwrap_or(u32::MAX)
 }
 
 fn lent_by(bytes: &[u8]) -> Lent {
     let mut three = [0i32; 3];
     numbers(bytes, &mut three);
+    let [budget, cells, room] = three;
     Lent {
-        budget: natural(three[0]),
-        cells: natural(three[1]),
-        room: natural(three[2]),
+        budget: natural(budget),
+        cells: natural(cells) as usize,
+        room: natural(room) as usize,
     }
 }
 
-// A case with its table and its readings.
-fn case(rt: &HostRuntime, s: &[u8], table: &[i32], readings: &[i32]) -> io::Result<()> {
-    let l = lent_by(rows::nth(rows::nth(s, b'|', 0), b':', 1));
-    run(rt, rows::nth(s, b'|', 2), table, readings, l)
-}
-
-fn with_numbers(rt: &HostRuntime, s: &[u8]) -> io::Result<()> {
+fn case(rt: &HostRuntime, s: &[u8]) -> io::Result<()> {
     let mut table = [0i32; 64];
     let mut given = [0i32; 8];
     let t = numbers(rows::nth(s, b'|', 3), &mut table);
     let g = numbers(rows::nth(s, b'|', 1), &mut given);
-    case(rt, s, first(&table, t), first(&given, g))
+    let l = lent_by(rows::nth(rows::nth(s, b'|', 0), b':', 1));
+    run(
+        rt,
+        rows::nth(s, b'|', 2),
+        first(&table, t),
+        first(&given, g),
+        l,
+    )
 }
 
 // A line that has not the four parts is a heading.
 fn line(rt: &HostRuntime, s: &[u8]) -> io::Result<()> {
     if cases::count(s, b'|') < 3 {
         say(rt, s)?;
-        return say(rt, b"\n");
+        return println!(rt; "");
     }
     say(rt, rows::nth(s, b':', 0))?;
-    with_numbers(rt, s)
+    case(rt, s)
 }
 
 fn each(rt: &HostRuntime, all: &[u8]) -> io::Result<()> {
-    let n = cases::count(all, b'\n');
-    let mut i = 0;
-    while i < n {
+    for i in 0..cases::count(all, b'\n') {
         line(rt, rows::nth(all, b'\n', i))?;
-        i += 1;
     }
     Ok(())
 }
