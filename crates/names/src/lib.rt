@@ -1,7 +1,8 @@
 // How a scope is held: what is visible at a place of a text, and the cells of its names, in a list of numbers: five counts, and then four for each declaration: the place of its name, the place after it, its cell, and its block.
-// The counts of a scope.
+// The entries are numbers and not structs: `with_is`, `declared_given` and the theorems beside them say what is done to this list, and they stand.
 #![tactic(auto)]
 
+// The counts of a scope.
 #[derive(Clone, Copy, PartialEq, Eq, Debug, Default)]
 pub struct Scope {
     // The declarations still visible: so many of the list.

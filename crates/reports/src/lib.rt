@@ -2,19 +2,21 @@
 #![tactic(auto)]
 
 ghost use Rattle.std.specs.Prelude.{◌≡◌};
+ghost use Rattle.endings.specs.Endings.{number_of};
 ghost use Rattle.reports.specs.Reports.{sendable, answer_numbers, run_numbers, text_numbers};
 
 use base::Refused;
+use endings::Ending;
 use machine::Report;
 use tables::Counts;
 
 // What may be sent on to the feed: the output of a run with ending 0, and of no other.
 #[tactic(auto, unfolding(crate::specs::Reports::sendable))]
-pub fn to_send(ending: u8, length: usize, out: &[u8]) -> &[u8]
-    ensures { result.now ≡ sendable ending length out.now }
+pub fn to_send(ending: Ending, length: usize, out: &[u8]) -> &[u8]
+    ensures { result.now ≡ sendable (number_of ending) length out.now }
 {
     match ending {
-        0 => out.get(..length).unwrap_or(&[]),
+        Ending::Normal => out.get(..length).unwrap_or(&[]),
         _ => &[],
     }
 }
