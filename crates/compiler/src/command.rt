@@ -1,7 +1,7 @@
 // Commands: one walk reads and translates. Only bodies and blocks recurse; the commands of a block are a loop.
 ghost use Rattle.std.specs.Prelude.{◌≡◌, false, suc, ◌<◌};
 ghost use Rattle.lexeme.specs.inner.Coded.{code_of, fixed_number};
-ghost use Rattle.compiler.specs.inner.Steps.{moved_to, printing_number, has_body, before_body, ended_walk, ended_table};
+ghost use Rattle.compiler.specs.inner.Steps.{moved_to, printing_number, has_body, before_body, HasRoom, ended_walk, ended_table};
 ghost use Rattle.compiler.specs.inner.Walks.{Ready, First, ReadsCommand, ReadsPrint, ReadsString, ReadsDeclare, ReadsRead, ReadsAssign, ReadsBody, ReadsGuarded, ReadsBlock};
 
 use crate::walk::{Read, Walk};
@@ -138,7 +138,7 @@ fn before_body(again: bool) -> u8
 // After the body: WHILE jumps back to its condition.
 #[tactic(auto, unfolding(crate::specs::inner::Steps::ended_walk, crate::specs::inner::Steps::ended_table, instruction::specs::Instructions::encode))]
 fn ended(table: &mut [i32], w: Walk, again: bool, back: usize) -> Walk
-    requires { (w.code < 10000000) × (back < 10000000) }
+    requires { HasRoom w × (back < 10000000) }
     ensures { (result ≡ ended_walk again w) × (table.new ≡ ended_table again table.old w.code back) }
 {
     if again {

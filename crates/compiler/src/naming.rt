@@ -1,8 +1,8 @@
 // The name ahead: declared, or used.
-ghost use Rattle.std.specs.Prelude.{◌≡◌, [], ◌∷◌, ◌<◌, pos};
+ghost use Rattle.std.specs.Prelude.{◌≡◌, [], ◌∷◌, pos};
 ghost use Rattle.tables.specs.inner.Tables.{put};
 ghost use Rattle.names.specs.inner.Held.{declared_in};
-ghost use Rattle.compiler.specs.inner.Steps.{one_instruction, cell_of, noted_walk, cell_number, declared_walk};
+ghost use Rattle.compiler.specs.inner.Steps.{one_instruction, HasRoom, cell_of, noted_walk, cell_number, declared_walk};
 
 use crate::walk::Walk;
 use base::{Refusal, Refused};
@@ -35,7 +35,7 @@ pub fn operand(c: Option<usize>) -> i32
 
 // A use of the name ahead: an instruction on its cell.
 pub fn used(text: &[u8], names: &[usize], table: &mut [i32], w: Walk, operation: i32) -> Walk
-    requires { w.code < 10000000 }
+    requires { HasRoom w }
     ensures { (result ≡ one_instruction (noted_walk (cell_of text.now names.now w.next) w w.next.place)) × (table.new ≡ put table.old w.code (operation ∷ pos (cell_number (cell_of text.now names.now w.next)) ∷ [])) }
 {
     let c = scopes::look_up(text, names, w.next.place, w.next.end);

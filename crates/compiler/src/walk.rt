@@ -1,8 +1,8 @@
 // How far a reading has come, and what it writes.
-ghost use Rattle.std.specs.Prelude.{◌≡◌, [], ◌∷◌, ◌+◌, ◌≤◌, ◌<◌, length};
+ghost use Rattle.std.specs.Prelude.{◌≡◌, [], ◌∷◌, ◌≤◌, length};
 ghost use Rattle.lexeme.specs.inner.Coded.{fixed_number};
 ghost use Rattle.tables.specs.inner.Tables.{put};
-ghost use Rattle.compiler.specs.inner.Steps.{start_at, one_instruction, faulted_walk, followed_by, Advances, Expects};
+ghost use Rattle.compiler.specs.inner.Steps.{start_at, one_instruction, faulted_walk, HasRoom, followed_by, Advances, Expects};
 
 use base::{Refusal, Refused};
 use lexeme::{Kind, Lexeme, fixed};
@@ -40,7 +40,7 @@ impl Walk {
     // The walk with a place for one instruction more.
     #[tactic(auto, unfolding(crate::specs::inner::Steps::one_instruction))]
     pub fn skipped(self) -> Walk
-        requires { self.code < 10000000 }
+        requires { HasRoom self }
         ensures { result ≡ one_instruction self }
     {
         Walk {
@@ -51,7 +51,7 @@ impl Walk {
 
     // The walk with one instruction more.
     pub fn emitted(self, table: &mut [i32], operation: i32, operand: i32) -> Walk
-        requires { self.code < 10000000 }
+        requires { HasRoom self }
         ensures { (result ≡ one_instruction self) × (table.new ≡ put table.old self.code (operation ∷ operand ∷ [])) }
     {
         tables::put(table, self.code, operation, operand);
@@ -121,7 +121,7 @@ pub struct Read {
 impl Read {
     // With one instruction more.
     pub fn followed(self, table: &mut [i32], operation: i32, operand: i32) -> Read
-        requires { self.walk.code < 10000000 }
+        requires { HasRoom self.walk }
         ensures { (result ≡ followed_by self) × (table.new ≡ put table.old self.walk.code (operation ∷ operand ∷ [])) }
     {
         Read {

@@ -110,8 +110,11 @@ operation_number b =
 -- ---- an instruction after what was read
 
 -- there is room in the code's numbers
+abbrev pub HasRoom : Walk → Type 0
+HasRoom w = w.code < 10000000
+
 pub record Fits (r : Read) : Type 0 where
-  pub code : r.walk.code < 10000000
+  pub code : HasRoom r.walk
   pub need : r.need < 10000000
 
 abbrev pub followed_by : Read → Read
