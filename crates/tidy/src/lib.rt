@@ -30,7 +30,7 @@ impl From<Refused> for Uncopied {
     }
 }
 
-// Of a copy: number, place and length, where a refusal has no length.
+// Of a copy: number, place and length, where a refusal has no length. An array, since C reads it as such.
 #[tactic(auto, unfolding(crate::specs::Tidy::tidy_numbers, base::specs::Answers::number))]
 pub fn numbers(t: Result<usize, Uncopied>) -> [u64; 3]
     ensures { result ≡ tidy_numbers t }
