@@ -15,5 +15,10 @@ fn send(rt: &HostRuntime, text: &[u8], readings: &[i32]) -> ExitCode {
 fn main(rt: HostRuntime) -> ExitCode {
     let mut text = [0u8; Limits::TEXT + 1];
     let mut numbers = [0i32; Station::READINGS];
-    desk::with_lesson(&rt, &mut text, &mut numbers, |text, readings| send(&rt, text, readings))
+    desk::with_lesson(
+        &rt,
+        &mut text,
+        &mut numbers,
+        |text, readings| send(&rt, text, readings),
+    )
 }
