@@ -1,10 +1,10 @@
 // Bytes, their classes and comparing them; refusals and their numbers; and numbers set to 0.
 #![tactic(auto)]
 
-ghost use Rattle.std.specs.Prelude.{◌≡◌, ◌+◌, min, pos, length, drop, replicate};
-ghost use Rattle.base.specs.Bytes.{separator, small, letter, digit, run, begins, same};
+ghost use Rattle.std.specs.Prelude.{ℕ, Bool, ◌≡◌, ◌+◌, ◌≤◌, min, pos, length, drop, replicate};
+ghost use Rattle.base.specs.Bytes.{separator, small, letter, digit, letter_or_digit, no_quote, run, begins, same};
 ghost use Rattle.base.specs.inner.Parts.{part};
-ghost use Rattle.base.specs.inner.Kinds.{such};
+ghost use Rattle.base.specs.inner.Tests.{Tells};
 ghost use Rattle.base.specs.Answers.{number};
 
 // Why a text is refused: document 01, "Refused texts".
@@ -34,131 +34,95 @@ pub fn number(why: Refusal) -> u8
     why as u8
 }
 
-// Kinds of bytes: what a run is made of, and what a word begins with.
-#[derive(Clone, Copy)]
-pub enum Such {
-    Separator,
-    Small,
-    Letter,
-    LetterOrDigit,
-    Digit,
-    NoQuote,
-}
-
+#[tactic(auto, using(std::proofs::lemmas::Bool::Decides::nat_tests), unfolding(crate::specs::Bytes::separator))]
 pub fn is_separator(b: u8) -> bool
     ensures { result ≡ separator b }
 {
-    match b {
-        b' ' | 9 | 10 | 13 => true,
-        _ => false,
-    }
+    matches!(b, b' ' | 9 | 10 | 13)
 }
 
-fn is_small(b: u8) -> bool
+#[tactic(auto, unfolding(crate::specs::Bytes::small))]
+pub fn is_small(b: u8) -> bool
     ensures { result ≡ small b }
 {
-    match b {
-        b'a'..=b'z' => true,
-        _ => false,
-    }
+    b.is_ascii_lowercase()
 }
 
-fn is_letter(b: u8) -> bool
+#[tactic(auto, unfolding(crate::specs::Bytes::letter, crate::specs::Bytes::small, crate::specs::Bytes::capital))]
+pub fn is_letter(b: u8) -> bool
     ensures { result ≡ letter b }
 {
-    match b {
-        b'a'..=b'z' | b'A'..=b'Z' => true,
-        _ => false,
-    }
+    b.is_ascii_alphabetic()
 }
 
+#[tactic(auto, unfolding(crate::specs::Bytes::digit))]
 pub fn is_digit(b: u8) -> bool
     ensures { result ≡ digit b }
 {
-    match b {
-        b'0'..=b'9' => true,
-        _ => false,
-    }
+    b.is_ascii_digit()
 }
 
-pub fn is_such(kind: Such, b: u8) -> bool
-    ensures { result ≡ such kind b }
+#[tactic(auto, unfolding(crate::specs::Bytes::letter_or_digit))]
+pub fn is_letter_or_digit(b: u8) -> bool
+    ensures { result ≡ letter_or_digit b }
 {
-    match kind {
-        Such::Separator => is_separator(b),
-        Such::Small => is_small(b),
-        Such::Letter => is_letter(b),
-        Such::LetterOrDigit => is_letter(b) || is_digit(b),
-        Such::Digit => is_digit(b),
-        Such::NoQuote => b != b'"',
-    }
+    is_letter(b) || is_digit(b)
+}
+
+// Any byte but the quote.
+#[tactic(auto, unfolding(crate::specs::Bytes::no_quote))]
+pub fn is_no_quote(b: u8) -> bool
+    ensures { result ≡ no_quote b }
+{
+    b != b'"'
 }
 
 // Whether such a byte stands at a place.
-pub fn is_at(text: &[u8], at: usize, kind: Such) -> bool
-    ensures { result ≡ begins (such kind) (drop at text.now) }
+pub fn is_at<P: Fn(u8) -> bool>(text: &[u8], at: usize, is_such: P) -> bool
+    requires { P.IsAlwaysCallable is_such }
+    ensures { (such : ℕ → Bool) → Tells (P.post is_such) such → result ≡ begins such (drop at text.now) }
 {
-    if text.len() <= at {
-        return false;
-    }
-    is_such(kind, text[at])
+    text.get(at).is_some_and(|b| is_such(*b))
 }
 
 // The end of the longest run of such bytes from a place on; the place itself where it is past the text.
-pub fn run_end(text: &[u8], at: usize, kind: Such) -> usize
-    ensures { result ≡ at + length (run (such kind) (drop at text.now)) }
+pub fn run_end<P: Fn(u8) -> bool>(text: &[u8], at: usize, is_such: P) -> usize
+    requires { P.IsAlwaysCallable is_such }
+    ensures end { (such : ℕ → Bool) → Tells (P.post is_such) such → result ≡ at + length (run such (drop at text.now)) }
+    ensures onward { at ≤ result }
 {
-    let mut i = at;
-    while i < text.len() {
-        if !is_such(kind, text[i]) {
-            return i;
-        }
-        i += 1;
+    // `take_while(..).count()` over the rest proves too, and takes a tenth more instructions for each byte that is scanned.
+    let mut end = at;
+    while end < text.len() && is_such(text[end]) {
+        end += 1;
     }
-    i
+    end
 }
 
 pub fn smaller(a: usize, b: usize) -> usize
     ensures { result ≡ min a b }
 {
-    if a < b { a } else { b }
+    a.min(b)
 }
 
 // The bytes from the place p up to e, as far as the text has them.
 pub fn part(text: &[u8], p: usize, e: usize) -> &[u8]
     ensures { result.now ≡ part text.now p e }
 {
-    let end = smaller(e, text.len());
-    if end <= p {
-        return &text[0..0];
-    }
-    &text[p..end]
+    let end = e.min(text.len());
+    &text[p.min(end)..end]
 }
 
 // Whether two words are equal byte for byte.
 pub fn is_same(a: &[u8], b: &[u8]) -> bool
     ensures { result ≡ same a.now b.now }
 {
-    if a.len() != b.len() {
-        return false;
-    }
-    let mut i = 0;
-    while i < a.len() {
-        if a[i] != b[i] {
-            return false;
-        }
-        i += 1;
-    }
-    true
+    a == b
 }
 
 // Every number becomes 0.
 pub fn clear(numbers: &mut [i32])
     ensures { numbers.new ≡ replicate (length numbers.old) (pos 0) }
 {
-    let mut i = 0;
-    while i < numbers.len() {
-        numbers[i] = 0;
-        i += 1;
-    }
+    numbers.fill(0);
 }

@@ -7,7 +7,7 @@ ghost use Rattle.base.specs.Bytes.{separator, small, letter, digit, letter_or_di
 ghost use Rattle.lexeme.specs.Lexemes.{word, string_at, symbols, symbol, colon, next};
 ghost use Rattle.lexeme.specs.inner.Coded.{coded};
 
-use base::{Refusal, Refused, Such};
+use base::{Refusal, Refused};
 use lexeme::{Kind, Lexeme, fixed};
 
 // What is no lexeme, refused at its place.
@@ -54,7 +54,7 @@ fn name_at(text: &[u8], p: usize) -> Result<Lexeme, Refused>
     Ok(Lexeme {
         kind: Kind::Name,
         place: p,
-        end: base::run_end(text, p, Such::LetterOrDigit),
+        end: base::run_end(text, p, base::is_letter_or_digit),
     })
 }
 
@@ -63,8 +63,8 @@ fn capital_word_at(text: &[u8], p: usize) -> Result<Lexeme, Refused>
     requires { (begins letter (drop p text.now) ≡ true) × (begins small (drop p text.now) ≡ false) }
     ensures { result ≡ coded (word p (run letter_or_digit (drop p text.now))) }
 {
-    let e = base::run_end(text, p, Such::Letter);
-    if !base::is_at(text, e, Such::Digit) {
+    let e = base::run_end(text, p, base::is_letter);
+    if !base::is_at(text, e, base::is_digit) {
         return Ok(Lexeme {
             kind: lexeme::capital_word(&text[p..e]),
             place: p,
@@ -79,8 +79,8 @@ fn digits_at(text: &[u8], p: usize) -> Result<Lexeme, Refused>
     requires { begins digit (drop p text.now) ≡ true }
     ensures { result ≡ coded (word p (run letter_or_digit (drop p text.now))) }
 {
-    let e = base::run_end(text, p, Such::Digit);
-    if !base::is_at(text, e, Such::Letter) {
+    let e = base::run_end(text, p, base::is_digit);
+    if !base::is_at(text, e, base::is_letter) {
         return Ok(Lexeme {
             kind: Kind::Literal(value_of(&text[p..e])),
             place: p,
@@ -95,7 +95,7 @@ fn string_at(text: &[u8], p: usize) -> Result<Lexeme, Refused>
     requires { p < length text.now }
     ensures { result ≡ coded (string_at p (drop (p + 1) text.now)) }
 {
-    let e = base::run_end(text, p + 1, Such::NoQuote);
+    let e = base::run_end(text, p + 1, base::is_no_quote);
     if text.len() <= e {
         return Err(no_lexeme(p));
     }
@@ -154,10 +154,10 @@ fn symbol_at(b: u8, p: usize, q: usize) -> Result<Lexeme, Refused>
 fn skip(text: &[u8], at: usize) -> usize
     ensures { result ≡ at + length (run separator (drop at text.now)) }
 {
-    if !base::is_at(text, at, Such::Separator) {
+    if !base::is_at(text, at, base::is_separator) {
         return at;
     }
-    base::run_end(text, at, Such::Separator)
+    base::run_end(text, at, base::is_separator)
 }
 
 // The first lexeme at or after a place; where there is none, the end.
@@ -173,13 +173,13 @@ pub fn next(text: &[u8], at: usize) -> Result<Lexeme, Refused>
         });
     }
     let b = text[p];
-    if base::is_such(Such::Small, b) {
+    if base::is_small(b) {
         return name_at(text, p);
     }
-    if base::is_such(Such::Letter, b) {
+    if base::is_letter(b) {
         return capital_word_at(text, p);
     }
-    if base::is_such(Such::Digit, b) {
+    if base::is_digit(b) {
         return digits_at(text, p);
     }
     match b {

@@ -4,7 +4,6 @@ ghost use Rattle.rooms.specs.inner.Rooms.{said};
 ghost use Rattle.moves.specs.inner.Moves.{as_led};
 ghost use Rattle.perform.specs.inner.Prints.{print, asked_str, asked_int, Performed};
 
-use base::Such;
 use endings::Ending;
 use moves::{Move, State, moved};
 use numbers::decimal::put_decimal;
@@ -18,7 +17,7 @@ fn write(s: State, bytes: &[u8], line: bool, out: &mut [u8]) -> Result<Move, End
     Ok(Move::Go(State { printed, ..s }))
 }
 
-#[tactic(auto, using(base::proofs::Runs::run_part), unfolding(base::specs::inner::Kinds::such, crate::specs::inner::Prints::asked_str, crate::specs::inner::Prints::print_move, crate::specs::inner::Prints::print_room))]
+#[tactic(auto, using(base::proofs::Runs::run_part), unfolding(crate::specs::inner::Prints::asked_str, crate::specs::inner::Prints::print_move, crate::specs::inner::Prints::print_room))]
 pub fn print_str(
     s: State,
     text: &[u8],
@@ -28,7 +27,7 @@ pub fn print_str(
 ) -> Result<Move, Ending>
     ensures { Performed (asked_str s text.now q line) out.old (as_led result) out.new }
 {
-    let end = base::run_end(text, q, Such::NoQuote);
+    let end = base::run_end(text, q, base::is_no_quote);
     if text.len() <= end {
         return Err(Ending::BadCode);
     }

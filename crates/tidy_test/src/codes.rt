@@ -1,6 +1,5 @@
 // What the compiler says of a text and of its copy.
 use crate::say;
-use base::Such;
 use instruction::decode::{Op, decode};
 use limits::Limits;
 use std::io;
@@ -11,7 +10,7 @@ fn string_of(text: &[u8], operation: i32, operand: i32) -> Option<&[u8]> {
     let Some(Op::PrintStr(place, _)) = decode(operation, operand) else {
         return None;
     };
-    Some(base::part(text, place, base::run_end(text, place, Such::NoQuote)))
+    Some(base::part(text, place, base::run_end(text, place, base::is_no_quote)))
 }
 
 // Whether an operation's operands are equal, or the places of equal strings.

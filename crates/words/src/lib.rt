@@ -5,7 +5,7 @@ ghost use Rattle.std.specs.Prelude.{◌≡◌, cond, ◌≤◌, length, get_or};
 ghost use Rattle.lines.specs.Added.{Added};
 ghost use Rattle.words.specs.Words.{no_lexeme, too_large, why_row, how_row, in_words, why, how};
 
-use base::{Refusal, Such};
+use base::Refusal;
 use limits::{Limits, Station};
 
 // The numbers that the words name.
@@ -67,7 +67,7 @@ fn no_lexeme(b: u8) -> usize
     if b == b':' {
         return 2;
     }
-    if base::is_such(Such::LetterOrDigit, b) {
+    if base::is_letter_or_digit(b) {
         return 3;
     }
     if 128 <= b {

@@ -1,28 +1,24 @@
--- `lexeme::run_end` meets its contract: the end from `i` on is the end from `at` on. Assumes nothing.
-use Prim.Native.Nat.{◌-◌}
-use mathlib.Core.Path.{refl, sym, ◌∙◌}
-use native.Mathlib.Omega.{arith}
-use borrow.Author.Tests.{not-true, not-false}
+-- `base::run_end` meets its contract. Assumes nothing.
+use Rattle.std.proofs.Common.{arith, refl, sym, ◌∙◌}
 use Rattle.base.proofs.Runs.{run_on, run_stop, run_out}
 use Rattle.base.proofs.run_end.Goals as goal
+use Rattle.base.proofs.run_end.Goals.{then-loop-end-test+else-is_such, else-loop-end-test}
 
-pub loop-i-init : goal.loop-i-init
-loop-i-init c = refl
+pub loop-end-init : goal.loop-end-init
+loop-end-init g c = record { onward = omega arith; same = λ such t. refl }
 
-pub bounds-text-i : goal.bounds-text-i
-bounds-text-i c = omega arith
+pub loop-end-preserved : goal.loop-end-preserved
+loop-end-preserved g c = record {
+  onward = omega arith;
+  same = λ such agrees. run_on such _ c.loop-end.end c.loop-end-test.true (sym (agrees _ _ c.is_such.ensures) ∙ c.if-is_such.true) ∙ c.loop-end.invariant.same such agrees;
+}
 
-pub returns-then-not-is_such : goal.returns-then-not-is_such
-returns-then-not-is_such c = run_stop _ _ c.loop-i.i c.loop-i-test.true (sym c.is_such.ensures ∙ c.if-not-is_such.true) ∙ c.loop-i.invariant
+pub returns-clause-end : goal.returns-clause-end
+returns-clause-end g c such agrees =
+    elim c.loop-end-test.branch [
+      | then-loop-end-test+else-is_such w ↦ run_stop such _ c.loop-end.end w.loop-end-test.true (sym (agrees _ _ w.is_such.ensures) ∙ w.if-is_such.false) ∙ c.loop-end.invariant.same such agrees
+      | else-loop-end-test w ↦ run_out such _ _ w.loop-end-test.false ∙ c.loop-end.invariant.same such agrees
+    ]
 
-pub overflow_add-i : goal.overflow_add-i
-overflow_add-i c = omega arith
-
-pub loop-i-smaller : goal.loop-i-smaller
-loop-i-smaller c = omega arith
-
-pub loop-i-preserved : goal.loop-i-preserved
-loop-i-preserved c = run_on _ _ c.loop-i.i c.loop-i-test.true (sym c.is_such.ensures ∙ c.if-not-is_such.false) ∙ c.loop-i.invariant
-
-pub returns : goal.returns
-returns c = run_out _ _ _ c.loop-i-test.false ∙ c.loop-i.invariant
+pub returns-clause-onward : goal.returns-clause-onward
+returns-clause-onward g c = omega (arith, c.loop-end.invariant.onward)

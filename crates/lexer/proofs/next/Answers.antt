@@ -7,7 +7,6 @@ use mathlib.Core.Bool.{true, false}
 use borrow.Author.Tests.{ne_eqb}
 use lib.ListN.{length, get_or, drop}
 use Rattle.base.specs.Bytes.{separator, letter_or_digit, run}
-use Rattle.base.specs.inner.Kinds.{such}
 use Rattle.base.proofs.Runs.{begins_at, small_is, letter_is, digit_is, neither_is}
 use Rattle.lexeme.specs.Lexemes.{word, next}
 use Rattle.lexeme.specs.inner.Coded.{coded, code_of}
@@ -28,37 +27,28 @@ unfolding next coded code_of
 returns-then-text-p c = rw (← c.skip-p.ensures) (ap coded (here_end _ _ c.if-text-p.true))
 
 pub name_at-requires : goal.name_at-requires
-unfolding such
-name_at-requires c = begins_at _ _ _ c.if-text-p.false ∙ sym c.is_such.ensures ∙ c.if-is_such.true
+name_at-requires c = begins_at _ _ _ c.if-text-p.false ∙ sym c.is_small.ensures ∙ c.if-is_small.true
 
-pub returns-then-is_such : goal.returns-then-is_such
-unfolding such
-returns-then-is_such c = rw (at_word _ _ _ c.skip-p.ensures c.if-text-p.false (letter_is _ (small_is _ (sym c.is_such.ensures ∙ c.if-is_such.true)))) c.name_at.ensures
+pub returns-then-is_small : goal.returns-then-is_small
+returns-then-is_small c = rw (at_word _ _ _ c.skip-p.ensures c.if-text-p.false (letter_is _ (small_is _ (sym c.is_small.ensures ∙ c.if-is_small.true)))) c.name_at.ensures
 
 pub capital_word_at-requires : goal.capital_word_at-requires
-unfolding such
-capital_word_at-requires c = (begins_at _ _ _ c.if-text-p.false ∙ sym c.is_such-2.ensures ∙ c.if-is_such-2.true, begins_at _ _ _ c.if-text-p.false ∙ sym c.is_such.ensures ∙ c.if-is_such.false)
+capital_word_at-requires c = (begins_at _ _ _ c.if-text-p.false ∙ sym c.is_letter.ensures ∙ c.if-is_letter.true, begins_at _ _ _ c.if-text-p.false ∙ sym c.is_small.ensures ∙ c.if-is_small.false)
 
-pub returns-then-is_such-2 : goal.returns-then-is_such-2
-unfolding such
-returns-then-is_such-2 c = rw (at_word _ _ _ c.skip-p.ensures c.if-text-p.false (letter_is _ (sym c.is_such-2.ensures ∙ c.if-is_such-2.true))) c.capital_word_at.ensures
+pub returns-then-is_letter : goal.returns-then-is_letter
+returns-then-is_letter c = rw (at_word _ _ _ c.skip-p.ensures c.if-text-p.false (letter_is _ (sym c.is_letter.ensures ∙ c.if-is_letter.true))) c.capital_word_at.ensures
 
 pub digits_at-requires : goal.digits_at-requires
-unfolding such
-digits_at-requires c = begins_at _ _ _ c.if-text-p.false ∙ sym c.is_such-3.ensures ∙ c.if-is_such-3.true
+digits_at-requires c = begins_at _ _ _ c.if-text-p.false ∙ sym c.is_digit.ensures ∙ c.if-is_digit.true
 
-pub returns-then-is_such-3 : goal.returns-then-is_such-3
-unfolding such
-returns-then-is_such-3 c = rw (at_word _ _ _ c.skip-p.ensures c.if-text-p.false (digit_is _ (sym c.is_such-3.ensures ∙ c.if-is_such-3.true))) c.digits_at.ensures
+pub returns-then-is_digit : goal.returns-then-is_digit
+returns-then-is_digit c = rw (at_word _ _ _ c.skip-p.ensures c.if-text-p.false (digit_is _ (sym c.is_digit.ensures ∙ c.if-is_digit.true))) c.digits_at.ensures
 
 pub returns-in-34 : goal.returns-in-34
-unfolding such
-returns-in-34 c = rw (at_other _ _ _ c.skip-p.ensures c.if-text-p.false (neither_is _ (sym c.is_such-2.ensures ∙ c.if-is_such-2.false) (sym c.is_such-3.ensures ∙ c.if-is_such-3.false)), c.in-34.is) c.string_at.ensures
+returns-in-34 c = rw (at_other _ _ _ c.skip-p.ensures c.if-text-p.false (neither_is _ (sym c.is_letter.ensures ∙ c.if-is_letter.false) (sym c.is_digit.ensures ∙ c.if-is_digit.false)), c.in-34.is) c.string_at.ensures
 
 pub returns-in-58 : goal.returns-in-58
-unfolding such
-returns-in-58 c = rw (at_other _ _ _ c.skip-p.ensures c.if-text-p.false (neither_is _ (sym c.is_such-2.ensures ∙ c.if-is_such-2.false) (sym c.is_such-3.ensures ∙ c.if-is_such-3.false)), c.in-58.is) c.colon_at.ensures
+returns-in-58 c = rw (at_other _ _ _ c.skip-p.ensures c.if-text-p.false (neither_is _ (sym c.is_letter.ensures ∙ c.if-is_letter.false) (sym c.is_digit.ensures ∙ c.if-is_digit.false)), c.in-58.is) c.colon_at.ensures
 
 pub returns-in_default : goal.returns-in_default
-unfolding such
-returns-in_default c = rw (at_other _ _ _ c.skip-p.ensures c.if-text-p.false (neither_is _ (sym c.is_such-2.ensures ∙ c.if-is_such-2.false) (sym c.is_such-3.ensures ∙ c.if-is_such-3.false)), ne_eqb (get_or c.args.text.now c.skip-p.result 0) 34 (λ e. omega arith), ne_eqb (get_or c.args.text.now c.skip-p.result 0) 58 (λ e. omega arith)) c.symbol_at.ensures
+returns-in_default c = rw (at_other _ _ _ c.skip-p.ensures c.if-text-p.false (neither_is _ (sym c.is_letter.ensures ∙ c.if-is_letter.false) (sym c.is_digit.ensures ∙ c.if-is_digit.false)), ne_eqb (get_or c.args.text.now c.skip-p.result 0) 34 (λ e. omega arith), ne_eqb (get_or c.args.text.now c.skip-p.result 0) 58 (λ e. omega arith)) c.symbol_at.ensures
