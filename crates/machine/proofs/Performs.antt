@@ -35,7 +35,7 @@ module _ {lent : Lent} {before : List ℕ} {s : State} {cells : List ℤ} {room 
   each PrintInt = prints_int g
   each (PrintStr q line) = prints_str g q line
 
-  -- it is lent the text, the table and the readings of the run
-  pub performs : (o : Op) {text : List ℕ} {table readings : List ℤ} → text ≡ lent.text → table ≡ lent.table → readings ≡ lent.readings → {r : Led} {room' : List ℕ} →
-      Performed (asked s (length table) text readings (held s cells) (length cells) o) room r room' → Did lent before (decoded lent (as_instruction (Some o))) s cells room r room'
-  performs o t e n l = rw (l.answer, l.bytes, t, e, n) (each o)
+  -- it is lent as many cells as the stack has
+  pub performs : (o : Op) {n : ℕ} → n ≡ length cells → {r : Led} {room' : List ℕ} →
+      Performed (asked s (length lent.table) lent.text lent.readings (held s cells) n o) room r room' → Did lent before (decoded lent (as_instruction (Some o))) s cells room r room'
+  performs o e p = rw (p.answer, p.bytes, e) (each o)

@@ -8,6 +8,7 @@ ghost use Rattle.machine.specs.Promise.{lends, Reported, Ran};
 
 use endings::Ending;
 use moves::{Move, State};
+use perform::Lent;
 
 mod step;
 
@@ -50,15 +51,9 @@ fn made(m: Move, stack: &mut [i32]) -> State
 }
 
 // The run proper, which leaves the stack as its last step did.
-fn follow(
-    text: &[u8],
-    table: &[i32],
-    readings: &[i32],
-    budget: u32,
-    stack: &mut [i32],
-    out: &mut [u8],
-) -> Report
-    ensures { Reported (whole_run (lends text.now table.now readings.now stack.old out.old) budget) out.old result out.new }
+fn follow(lent: Lent, budget: u32, stack: &mut [i32], out: &mut [u8]) -> Report
+    requires { lent.cells ≡ length stack.old }
+    ensures { Reported (whole_run (lends lent.entry.text.now lent.entry.table.now lent.entry.readings.now stack.old out.old) budget) out.old result out.new }
 {
     let mut s = State {
         index: 0,
@@ -66,11 +61,11 @@ fn follow(
         used: 0,
         printed: 0,
     };
-    if table.len() % 2 != 0 {
+    if lent.table.len() % 2 != 0 {
         return ended(Ending::BadCode, 0, s);
     }
     for steps in 0..budget {
-        match step::step(s, text, table, readings, stack, out) {
+        match step::step(s, lent, stack, out) {
             Ok(m) => s = made(m, stack),
             Err(e) => return ended(e, steps + 1, s),
         }
@@ -89,7 +84,13 @@ pub fn run(
 ) -> Report
     ensures { Ran (whole_run (lends text.now table.now readings.now stack.old out.old) budget) stack.old out.old result stack.new out.new }
 {
-    let r = follow(text, table, readings, budget, stack, out);
+    let lent = Lent {
+        text,
+        table,
+        readings,
+        cells: stack.len(),
+    };
+    let r = follow(lent, budget, stack, out);
     base::clear(stack);
     r
 }

@@ -1,7 +1,7 @@
 // What was decoded, done at the state past it.
 #![tactic(auto)]
 
-ghost use Rattle.std.specs.Prelude.{◌≡◌};
+ghost use Rattle.std.specs.Prelude.{◌≡◌, length};
 ghost use Rattle.numbers.specs.inner.Coded.{as_two_sided};
 ghost use Rattle.moves.specs.inner.Moves.{as_led, two_sided_move};
 ghost use Rattle.perform.specs.inner.Prints.{Performed};
@@ -29,32 +29,32 @@ fn operate(s: State, live: &[i32], k: Operator) -> Result<Move, Ending>
     }
 }
 
-// The live cells are the lowest of a stack of as many as `cells`, and `size` is the table's.
+// What a run reads, and how many cells its stack has.
+#[derive(Clone, Copy)]
+pub struct Lent<'a> {
+    pub text: &'a [u8],
+    pub table: &'a [i32],
+    pub readings: &'a [i32],
+    pub cells: usize,
+}
+
+// The live cells are the lowest of the stack.
 #[tactic(auto, unfolding(crate::specs::inner::Asks::asked, crate::specs::inner::Prints::print_move, crate::specs::inner::Prints::print_room))]
-pub fn perform(
-    s: State,
-    o: Op,
-    size: usize,
-    text: &[u8],
-    readings: &[i32],
-    live: &[i32],
-    cells: usize,
-    out: &mut [u8],
-) -> Result<Move, Ending>
-    ensures { Performed (asked s size text.now readings.now live.now cells o) out.old (as_led result) out.new }
+pub fn perform(s: State, o: Op, lent: Lent, live: &[i32], out: &mut [u8]) -> Result<Move, Ending>
+    ensures { Performed (asked s (length lent.entry.table.now) lent.entry.text.now lent.entry.readings.now live.now lent.entry.cells o) out.old (as_led result) out.new }
 {
     match o {
         Op::Halt(e) => Err(e),
-        Op::PushInt(v) => moves::push_int(s, cells, v),
-        Op::LoadStack(k) => moves::load_stack(s, cells, live, k),
+        Op::PushInt(v) => moves::push_int(s, lent.cells, v),
+        Op::LoadStack(k) => moves::load_stack(s, lent.cells, live, k),
         Op::StoreStack(k) => moves::store_stack(s, live, k),
-        Op::Jump(a) => moves::jump(s, size, a),
-        Op::JumpIfFalse(a) => moves::jump_if_false(s, live, size, a),
+        Op::Jump(a) => moves::jump(s, lent.table.len(), a),
+        Op::JumpIfFalse(a) => moves::jump_if_false(s, live, lent.table.len(), a),
         Op::TwoSided(k) => operate(s, live, k),
         Op::Negate => moves::negate(s, live),
         Op::Not => moves::not(s, live),
-        Op::Read => moves::read(s, cells, readings),
+        Op::Read => moves::read(s, lent.cells, lent.readings),
         Op::PrintInt => print::print_int(s, live, out),
-        Op::PrintStr(q, line) => print::print_str(s, text, q, line, out),
+        Op::PrintStr(q, line) => print::print_str(s, lent.text, q, line, out),
     }
 }

@@ -7,8 +7,8 @@ use Rattle.machine.proofs.follow.Given as goal
 
 abbrev pub invariant-loop-steps : goal.invariant-loop-steps
 invariant-loop-steps l =
-    let lent = lends l.text l.table l.readings l.initial.stack l.initial.out in
+    let given = lends l.lent.text.now l.lent.table.now l.lent.readings.now l.initial.stack l.initial.out in
     record {
-      good : Good lent l.initial.out l.s l.stack l.out;
-      again : M.run lent (l.budget - l.steps) (machine_of l.s l.stack l.out) ≡ M.run lent l.budget M.fresh;
+      good : Good given l.initial.out l.s l.stack l.out;
+      again : M.run given (l.budget - l.steps) (machine_of l.s l.stack l.out) ≡ M.run given l.budget M.fresh;
     }

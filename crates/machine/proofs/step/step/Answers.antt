@@ -1,6 +1,6 @@
 -- `step::step` meets its contract: what was decoded is what the rule does next. Assumes nothing.
 use mathlib.Core.Path.{◌≡◌, sym}
-use Prim.Native.Nat.{◌+◌, ◌/◌, ◌%◌, ◌≤◌, ◌<◌}
+use Prim.Native.Nat.{◌+◌, ◌/◌}
 use native.Mathlib.Omega.{arith}
 use borrow.Author.Tests.{le-ltb}
 use lib.IntN.{pos}
@@ -21,24 +21,25 @@ use Rattle.machine.proofs.Steps.{stopped, barred, also, fetches}
 use Rattle.machine.proofs.step.step.Goals as goal
 use Rattle.machine.proofs.step.step.Goals.{After-decode}
 
-pub returns-then-table-i : goal.returns-then-table-i
+pub returns-then-lent-i : goal.returns-then-lent-i
 unfolding M.step M.fetched M.pairs M.decoded
-returns-then-table-i c = λ lent x e r before g.
-    let past : length lent.table ≤ c.args.t.index = rw (← e) c.if-table-i.true in
-    stopped g _ 8 (rw (le-ltb (c.args.t.index / 2) (length lent.table / 2) (omega arith)))
+returns-then-lent-i c = λ room before g. stopped g _ 8 (rw (le-ltb (c.args.t.index / 2) (length c.args.lent.table.now / 2) (omega arith)))
 
 -- the live cells that are handed on are as many as the depth
 pub slice_bounds-perform-end : goal.slice_bounds-perform-end
-slice_bounds-perform-end c = sym (length-take-le _ _ c.requires.0)
+slice_bounds-perform-end c = sym (length-take-le _ _ c.requires.deep)
+
+-- what the run is lent, with a room of a size
+abbrev given : After-decode → ℕ → M.Lent
+given c room = record { text = c.args.lent.text.now; table = c.args.lent.table.now; readings = c.args.lent.readings.now; cells = c.args.lent.cells; room = room }
 
 -- what was decoded at the index, done at the state past it, is what the rule does next
-next : (c : After-decode) {lent : M.Lent} {before : List ℕ} → c.args.table.now ≡ lent.table → Good lent before c.args.t c.args.cells.now c.args.out.now →
-    M.decoded lent (as_instruction c.decode.result) (machine_of (moves_to c.args.t (c.args.t.index + 2) c.args.t.depth) c.args.cells.now c.args.out.now) ≡ M.step lent (machine_of c.args.t c.args.cells.now c.args.out.now)
-next c {lent} e g =
-    let decoded = rw (to_z-of_z {w = w32} {z = get_or c.args.table.now c.args.t.index (pos 0)} (record { sfits = c.decode-arg-1.given }), to_z-of_z {w = w32} (record { sfits = c.decode-arg-2-1.given }), e) at c.decode.ensures in
-    let within : c.args.t.index < length lent.table = rw (← e) c.if-table-i.false in
-    let even : length lent.table % 2 ≡ 0 = rw (← e) c.requires.1.1 in
-    fetches lent c.decode.result c.args.t c.args.cells.now c.args.out.now g.whole within even decoded
+next : (c : After-decode) (room : ℕ) {before : List ℕ} → Good (given c room) before c.args.t c.args.stack.now c.args.out.now →
+    M.decoded (given c room) (as_instruction c.decode.result) (machine_of (moves_to c.args.t (c.args.t.index + 2) c.args.t.depth) c.args.stack.now c.args.out.now) ≡ M.step (given c room) (machine_of c.args.t c.args.stack.now c.args.out.now)
+next c room g =
+    let table = c.args.lent.table.now in
+    let decoded = rw (to_z-of_z {w = w32} {z = get_or table c.args.t.index (pos 0)} (record { sfits = c.decode-arg-1.given }), to_z-of_z {w = w32} (record { sfits = c.decode-arg-2-1.given })) at c.decode.ensures in
+    fetches (given c room) c.decode.result c.args.t c.args.stack.now c.args.out.now g.whole c.if-lent-i.false c.requires.even decoded
 
 -- the state past it
 past : {lent : M.Lent} {before : List ℕ} {t : State} {cells : List ℤ} {room : List ℕ} → Good lent before t cells room → Good lent before (moves_to t (t.index + 2) t.depth) cells room
@@ -48,8 +49,8 @@ pub returns-in_err-o : goal.returns-in_err-o
 returns-in_err-o c =
     let e : as_led c.from_residual.result ≡ stops bad_code = grind (arith, common_steps) in
     let none : c.decode.result ≡ None = c.in_err-o.ensures.ok_part in
-    rw e (λ lent x t r before g. also (barred (past g)) (rw none at (next (goal.at.returns-in_err-o c).After-decode t g)))
+    rw e (λ room before g. also (barred (past g)) (rw none at (next (goal.at.returns-in_err-o c).After-decode room g)))
 
 pub returns : goal.returns
-returns c = λ lent x t r before g.
-    also (performs (past g) c.in_ok-o.o x t r c.perform.ensures) (rw c.in_ok-o.ensures.ok_part at (next (goal.at.returns c).After-decode t g))
+returns c = λ room before g.
+    also (performs (past g) c.in_ok-o.o (sym g.stack) c.perform.ensures) (rw c.in_ok-o.ensures.ok_part at (next (goal.at.returns c).After-decode room g))
