@@ -23,7 +23,7 @@ use Rattle.perform.specs.inner.Prints.{Asked, silent, print, fits, print_move, p
 use Rattle.rules.specs.Machine.{Lent, string, stop, printed, written, names_well, prints, does, tried, decoded}
 use Rattle.machine.specs.inner.Coded.{machine_of, Rule, Good, Did}
 use Rattle.machine.proofs.Moves.{held, count, top}
-use Rattle.machine.proofs.Steps.{stopped, few, works, says, also}
+use Rattle.machine.proofs.Steps.{placed, stopped, few, works, says, also}
 use Rattle.rules.proofs.Strings.{quote, not_closed, is_closed}
 
 module _ (room bs : List ℕ) (at : ℕ) (fit : at + length bs ≤ length room) where
@@ -90,8 +90,7 @@ module _ {lent : Lent} {before : List ℕ} {s : State} {cells : List ℤ} {room 
       (λ b. few g print_int (ltb-true s.depth 1 b))
       (λ b.
       let h = ltb-false s.depth 1 b in
-      let good : Good lent before (moves_to s s.index d) cells room = record { deep = omega (arith, g.deep); stack = g.stack; within = g.within; size = g.size; past = g.past; whole = g.whole } in
-      also (prints_so good bs) (works g print_int d h refl refl (omega arith) refl (top g h))))
+      also (prints_so (placed g s.index d g.whole (omega (arith, g.deep))) bs) (works g print_int d h refl refl (omega arith) refl (top g h))))
 
   pub prints_str : (q : ℕ) (line : Bool) → So (decoded lent (as_instruction (Some (PrintStr q line)))) (asked_str s lent.text q line)
   unfolding asked_str string

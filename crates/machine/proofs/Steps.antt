@@ -36,29 +36,28 @@ module _ {lent : Lent} {before : List ℕ} {s : State} {cells : List ℤ} {room 
   unfolding decoded
   barred = stopped (decoded lent none) bad_code refl
 
+  -- the state at another index and depth
+  pub placed : (index d : ℕ) → index % 2 ≡ 0 → d ≤ length cells → Good lent before (moves_to s index d) cells room
+  placed index d w h = record { deep = h; stack = g.stack; within = g.within; size = g.size; past = g.past; whole = w }
+
+  -- and with a cell set
+  put : (d k : ℕ) (v : ℤ) → d ≤ length cells → Good lent before (moves_to s s.index d) (set cells k v) room
+  put d k v h = let e = length-set cells k v in record { deep = omega arith; stack = e ∙ g.stack; within = g.within; size = g.size; past = g.past; whole = g.whole }
+
   -- it went on, and printed nothing
   pub goes : (rule : Rule) (index d : ℕ) → index % 2 ≡ 0 → d ≤ length cells → go (machine_of (moves_to s index d) cells room) ≡ rule (machine_of s cells room) → Did lent before rule s cells room (leads (Go (moves_to s index d))) room
-  goes rule index d w h p = record {
-    seen = p;
-    left = (tt, record { deep = h; stack = g.stack; within = g.within; size = g.size; past = g.past; whole = w });
-  }
+  goes rule index d w h p = record { seen = p; left = (tt, placed index d w h) }
 
   -- and it sets a cell
   pub sets : (rule : Rule) (d k : ℕ) (v : ℤ) → d ≤ length cells → k < length cells → go (machine_of (moves_to s s.index d) (set cells k v) room) ≡ rule (machine_of s cells room) → Did lent before rule s cells room (leads (Set (moves_to s s.index d) k v)) room
-  sets rule d k v h l p =
-      let e = length-set cells k v in
-      record {
-        seen = p;
-        left = (l, record { deep = omega arith; stack = e ∙ g.stack; within = g.within; size = g.size; past = g.past; whole = g.whole });
-      }
+  sets rule d k v h l p = record { seen = p; left = (l, put d k v h) }
 
   pub does_push : (rule : Rule) (d : ℕ) (v : ℤ) → d < length cells → go (record { place = s.index / 2; stack = v ∷ live d cells; outside = outside s room }) ≡ rule (machine_of s cells room) → Did lent before rule s cells room (leads (pushes s d v)) room
   does_push rule d v h p =
-      let e = length-set cells d v in
       let top : d + 1 - 1 ≡ d = omega arith in
       record {
         seen = rw (top, add-one d, live_push d cells v h) p;
-        left = rw top ((omega arith, omega arith), record { deep = omega arith; stack = e ∙ g.stack; within = g.within; size = g.size; past = g.past; whole = g.whole });
+        left = rw top ((omega arith, omega arith), put (d + 1) d v (omega arith));
       }
 
   pub does_put : (rule : Rule) (d : ℕ) (n : Result) → d < length cells → resulting n (record { place = s.index / 2; stack = live d cells; outside = outside s room }) ≡ rule (machine_of s cells room) → Did lent before rule s cells room (puts s d n) room

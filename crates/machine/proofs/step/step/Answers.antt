@@ -17,7 +17,7 @@ use Rattle.moves.specs.inner.Moves.{as_led, stops, moves_to}
 use Rattle.rules.specs.Machine as M
 use Rattle.machine.specs.inner.Coded.{machine_of, Good}
 use Rattle.machine.proofs.Performs.{performs}
-use Rattle.machine.proofs.Steps.{stopped, barred, also, fetches}
+use Rattle.machine.proofs.Steps.{placed, stopped, barred, also, fetches}
 use Rattle.machine.proofs.step.step.Goals as goal
 use Rattle.machine.proofs.step.step.Goals.{After-decode}
 
@@ -43,7 +43,7 @@ next c room g =
 
 -- the state past it
 past : {lent : M.Lent} {before : List ℕ} {t : State} {cells : List ℤ} {room : List ℕ} → Good lent before t cells room → Good lent before (moves_to t (t.index + 2) t.depth) cells room
-past g = record { deep = g.deep; stack = g.stack; within = g.within; size = g.size; past = g.past; whole = omega (arith, g.whole) }
+past g = placed g _ _ (omega (arith, g.whole)) g.deep
 
 pub returns-in_err-o : goal.returns-in_err-o
 returns-in_err-o c =
