@@ -45,21 +45,21 @@ pub fn is_separator(b: u8) -> bool
 pub fn is_small(b: u8) -> bool
     ensures { result ≡ small b }
 {
-    b.is_ascii_lowercase()
+    matches!(b, b'a'..=b'z')
 }
 
 #[tactic(auto, unfolding(crate::specs::Bytes::letter, crate::specs::Bytes::small, crate::specs::Bytes::capital))]
 pub fn is_letter(b: u8) -> bool
     ensures { result ≡ letter b }
 {
-    b.is_ascii_alphabetic()
+    matches!(b, b'a'..=b'z' | b'A'..=b'Z')
 }
 
 #[tactic(auto, unfolding(crate::specs::Bytes::digit))]
 pub fn is_digit(b: u8) -> bool
     ensures { result ≡ digit b }
 {
-    b.is_ascii_digit()
+    matches!(b, b'0'..=b'9')
 }
 
 #[tactic(auto, unfolding(crate::specs::Bytes::letter_or_digit))]
