@@ -1,5 +1,5 @@
--- Laws of counting, of what bytes stand for, of numbers and of bytes put so many times. Assumes nothing.
-use mathlib.Core.Path.{◌≡◌}
+-- Laws of counting, of cases in their order, of what bytes stand for and of numbers. Assumes nothing.
+use mathlib.Core.Path.{◌≡◌, refl, ap, ◌∙◌}
 use mathlib.Core.Bool.{Bool, true, false, cond}
 use mathlib.Core.List.{List, [], ◌∷◌, ◌++◌, map, append_assoc, append-nil}
 use Prim.Native.Nat.{ℕ, suc, ◌+◌, ◌-◌, ◌*◌, ◌≤◌, ◌<◌}
@@ -8,26 +8,33 @@ use native.Mathlib.Omega.{arith}
 use borrow.Author.Tests.{lt-ltb, le-ltb}
 use lib.Dec.{eqb}
 use lib.ListN.{length, get_or, set, take, drop, drop_of_length-le}
-use lib.Seq.{drop-cons, drop-set-lt, take-suc-set, take_all}
-use mir.Val.{bool_byte}
-use Rattle.cases.specs.Cases.{marks, meant, worth, times}
+use lib.Seq.{drop-cons, drop-set-lt, take-suc-set, take_all, length-take-le}
+use Rattle.std.specs.List.{filter, slice_split}
+use Rattle.std.proofs.lemmas.List.{get_or-take}
+use Rattle.std.proofs.lemmas.List.Sums.{length-filter}
+use Rattle.std.proofs.lemmas.List.Splits.{length-slice_split}
+use Rattle.rows.specs.Rows.{nth}
+use Rattle.rows.proofs.Laws.{part_is_row}
+use Rattle.cases.specs.Cases.{marks, meant, worth, in_order}
 
--- ---- counting
+-- ---- counting, as the library counts, and the cases that are counted
 
-one_or_none : (t : Bool) (n k : ℕ) → n + bool_byte t + k ≡ n + cond t (suc k) k
-one_or_none true n k = omega arith
-one_or_none false n k = omega arith
-
-pub marks_on : (mark : ℕ) (s : List ℕ) (n i : ℕ) → i < length s → n + bool_byte (eqb (get_or s i 0) mark) + marks mark (drop (i + 1) s) ≡ n + marks mark (drop i s)
+pub marks_filtered : (mark : ℕ) (s : List ℕ) → length (filter (λ b. eqb b mark) s) ≡ marks mark s
 unfolding marks
-marks_on mark s n i p = rw (add-one i, drop-cons s i 0 p) (one_or_none (eqb (get_or s i 0) mark) n (marks mark (drop (suc i) s)))
+marks_filtered mark [] = refl
+marks_filtered mark (b ∷ s) = by (marks_filtered mark s) (eqb b mark)
+  where
+    by : length (filter (λ b. eqb b mark) s) ≡ marks mark s → (t : Bool) → length (cond t (b ∷ filter (λ b. eqb b mark) s) (filter (λ b. eqb b mark) s)) ≡ cond t (suc (marks mark s)) (marks mark s)
+    by e true = ap suc e
+    by e false = e
 
-pub marks_start : (mark : ℕ) (s : List ℕ) → 0 + marks mark (drop 0 s) ≡ marks mark s
-marks_start mark s = omega arith
+pub in_order_length : (mark : ℕ) (s : List ℕ) → length (in_order mark s) ≡ marks mark s
+unfolding in_order
+in_order_length mark s = length-take-le _ _ (omega (arith, length-slice_split (λ b. eqb b mark) s, length-filter (λ b. eqb b mark) s, marks_filtered mark s))
 
-pub marks_out : (mark : ℕ) (s : List ℕ) (n i : ℕ) → length s ≤ i → n ≡ n + marks mark (drop i s)
-unfolding marks
-marks_out mark s n i p = rw (drop_of_length-le s p) (omega arith)
+pub in_order_at : (mark : ℕ) (s : List ℕ) (i : ℕ) → i < marks mark s → get_or (in_order mark s) i [] ≡ nth mark i s
+unfolding in_order
+in_order_at mark s i h = get_or-take (marks mark s) (slice_split (λ b. eqb b mark) s) i [] h ∙ part_is_row mark s i
 
 -- ---- what the bytes of a file stand for
 
@@ -51,13 +58,3 @@ module _ (s : List ℕ) (n i : ℕ) where
   pub worth_out : length s ≤ i → n ≡ worth n (drop i s)
   unfolding worth
   worth_out p = rw (drop_of_length-le s p)
-
--- ---- so many times the bytes: those that are left after i times
-
-pub times_on : (s : List ℕ) (n i : ℕ) → i < n → times (n - i) s ≡ s ++ times (n - (i + 1)) s
-unfolding times
-times_on s n i p = let e : n - i ≡ suc (n - (i + 1)) = omega arith in rw e
-
-pub times_out : (s : List ℕ) (n i : ℕ) → n ≤ i → times (n - i) s ≡ []
-unfolding times
-times_out s n i p = let e : n - i ≡ 0 = omega arith in rw e

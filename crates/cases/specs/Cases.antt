@@ -1,5 +1,6 @@
 -- Cases one after the other, each ended by a mark.
-use Rattle.std.specs.Prelude.{List, [], ◌∷◌, ◌++◌, cond, ℕ, zero, suc, ◌+◌, ◌-◌, ◌*◌, eqb, ltb}
+use Rattle.std.specs.Prelude.{List, [], ◌∷◌, cond, ℕ, suc, ◌+◌, ◌-◌, ◌*◌, eqb, ltb, take}
+use Rattle.std.specs.List.{slice_split}
 
 unfoldable pub marks : ℕ → List ℕ → ℕ
 marks mark [] = 0
@@ -14,7 +15,6 @@ unfoldable pub worth : ℕ → List ℕ → ℕ
 worth n [] = n
 worth n (b ∷ s) = cond (ltb 9999 n) n (worth (n * 10 + (b - 48)) s)
 
--- so many times the bytes, one after the other
-unfoldable pub times : ℕ → List ℕ → List ℕ
-times zero s = []
-times (suc n) s = s ++ times n s
+-- the cases in their order: the parts that a mark ends
+unfoldable pub in_order : ℕ → List ℕ → List (List ℕ)
+in_order mark s = take (marks mark s) (slice_split (λ b. eqb b mark) s)

@@ -1,10 +1,10 @@
 // Where a place of a text stands.
 #![tactic(auto)]
 
-ghost use Rattle.std.specs.Prelude.{◌≡◌, ◌≤◌, length};
+ghost use Rattle.std.specs.Prelude.{◌≡◌, Bool, ℕ, ◌≤◌, length};
 ghost use Rattle.base.specs.Bytes.{run};
-ghost use Rattle.place.specs.Places.{goes_on, count, within, line_start, spot};
-ghost use Rattle.place.specs.inner.Kinds.{such};
+ghost use Rattle.base.specs.inner.Tests.{Tells};
+ghost use Rattle.place.specs.Places.{line_feed, goes_on, begins, count, within, line_start, spot};
 
 // A line and a column, counted from 1, and the place of the line's first byte.
 #[derive(Clone, Copy)]
@@ -14,82 +14,63 @@ pub struct Spot {
     pub start: usize,
 }
 
-// The bytes that are counted, or that a run is made of.
-#[derive(Clone, Copy)]
-pub enum Such {
-    Feed,
-    NoFeed,
-    GoesOn,
-    Begins,
+#[tactic(auto, unfolding(crate::specs::Places::line_feed))]
+pub fn is_line_feed(b: u8) -> bool
+    ensures { result ≡ line_feed b }
+{
+    b == b'\n'
 }
 
-fn goes_on(b: u8) -> bool
+// A byte that goes on a character of UTF-8.
+#[tactic(auto, unfolding(crate::specs::Places::goes_on))]
+pub fn goes_on(b: u8) -> bool
     ensures { result ≡ goes_on b }
 {
     128 <= b && b <= 191
 }
 
-fn is_such(kind: Such, b: u8) -> bool
-    ensures { result ≡ such kind b }
+// Any other byte begins a character.
+#[tactic(auto, unfolding(crate::specs::Places::begins))]
+pub fn begins(b: u8) -> bool
+    ensures { result ≡ begins b }
 {
-    match kind {
-        Such::Feed => b == 10,
-        Such::NoFeed => b != 10,
-        Such::GoesOn => goes_on(b),
-        Such::Begins => !goes_on(b),
-    }
+    !goes_on(b)
 }
 
-pub fn count(bytes: &[u8], kind: Such) -> usize
-    ensures { result ≡ count (such kind) bytes.now }
+// How many bytes are such.
+pub fn count<F: Fn(u8) -> bool>(bytes: &[u8], such: F) -> usize
+    requires { F.IsAlwaysCallable such }
+    ensures { (test : ℕ → Bool) → Tells (F.post such) test → result ≡ count test bytes.now }
 {
-    let mut n = 0;
-    let mut i = 0;
-    while i < bytes.len() {
-        if is_such(kind, bytes[i]) {
-            n += 1;
-        }
-        i += 1;
-    }
-    n
+    bytes.iter().filter(|b| such(**b)).count()
 }
 
 // How long the run of such bytes at the beginning is.
-pub fn run(bytes: &[u8], kind: Such) -> usize
-    ensures { result ≡ length (run (such kind) bytes.now) }
+pub fn run<F: Fn(u8) -> bool>(bytes: &[u8], such: F) -> usize
+    requires { F.IsAlwaysCallable such }
+    ensures { (test : ℕ → Bool) → Tells (F.post such) test → result ≡ length (run test bytes.now) }
 {
-    let mut i = 0;
-    while i < bytes.len() {
-        if !is_such(kind, bytes[i]) {
-            return i;
-        }
-        i += 1;
-    }
-    i
+    base::run_end(bytes, 0, such)
 }
 
+#[tactic(auto, unfolding(crate::specs::Places::within))]
 pub fn within(text: &[u8], place: usize) -> usize
     ensures { result ≡ within text.now place }
 {
-    if place <= text.len() {
-        place
-    } else {
-        text.len()
-    }
+    place.min(text.len())
 }
 
+#[tactic(auto, using(crate::proofs::Places::start_here, crate::proofs::Places::start_back, crate::proofs::Places::start_first))]
 fn line_start(text: &[u8], p: usize) -> usize
     requires { p ≤ length text.now }
     ensures { result ≡ line_start text.now p }
 {
-    let mut i = p;
-    while 0 < i {
-        if is_such(Such::Feed, text[i - 1]) {
-            return i;
+    for i in (0..p).rev() {
+        if is_line_feed(text[i]) {
+            return i + 1;
         }
-        i -= 1;
     }
-    i
+    0
 }
 
 pub fn spot_of(text: &[u8], place: usize) -> Spot
@@ -97,8 +78,8 @@ pub fn spot_of(text: &[u8], place: usize) -> Spot
 {
     let p = within(text, place);
     let start = line_start(text, p);
-    let feeds = count(&text[..p], Such::Feed);
-    let characters = count(&text[start..p], Such::Begins);
+    let feeds = count(&text[..p], is_line_feed);
+    let characters = count(&text[start..p], begins);
     Spot {
         line: feeds + 1,
         column: characters + 1,
