@@ -1,4 +1,5 @@
 pub mod Adds
 pub mod Forms
 pub mod Short
+pub mod Times
 pub mod Unique

@@ -1,3 +1,4 @@
 pub mod Added
 pub mod Forms
 pub mod Lines
+pub mod Times

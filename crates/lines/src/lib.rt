@@ -1,15 +1,19 @@
 // Lines, added to a page that is lent. Each function answers the place after what it added; what the page has no room for is left out.
 #![tactic(auto)]
 
-ghost use Rattle.std.specs.Prelude.{◌≡◌, cond, [], ◌∷◌, eqb, pos, get_or};
+ghost use Rattle.std.specs.Prelude.{[], ◌∷◌, pos};
+ghost use Rattle.endings.specs.Endings.{number_of};
 ghost use Rattle.numbers.specs.Numbers.{decimal};
 ghost use Rattle.lines.specs.Added.{Added};
+ghost use Rattle.lines.specs.Times.{times};
 ghost use Rattle.lines.specs.Forms.{filled};
 ghost use Rattle.lines.specs.Lines.{refusal_line, refused_line, ending_line, accepted_line};
 
-use base::{Refusal, smaller};
+use base::Refused;
+use endings::Ending;
 use numbers::decimal::{put_decimal, put_digits};
 
+#[tactic(auto, using(crate::proofs::Adds::added_past))]
 pub fn put_byte(page: &mut [u8], at: usize, b: u8) -> usize
     ensures { Added (b ∷ []) page.old at page.new result }
 {
@@ -20,18 +24,28 @@ pub fn put_byte(page: &mut [u8], at: usize, b: u8) -> usize
     at + 1
 }
 
+#[tactic(auto, using(crate::proofs::Adds::copied))]
 pub fn put(page: &mut [u8], at: usize, bytes: &[u8]) -> usize
     ensures { Added bytes.now page.old at page.new result }
 {
-    let mut next = smaller(page.len(), at);
-    let mut i = 0;
-    while i < bytes.len() {
-        next = put_byte(page, next, bytes[i]);
-        i += 1;
+    let start = at.min(page.len());
+    let n = bytes.len().min(page.len() - start);
+    page[start..start + n].copy_from_slice(&bytes[..n]);
+    start + n
+}
+
+// A piece so many times.
+pub fn put_many(page: &mut [u8], at: usize, piece: &[u8], n: usize) -> usize
+    ensures { Added (times n piece.now) page.old at page.new result }
+{
+    let mut next = at.min(page.len());
+    for _ in 0..n {
+        next = put(page, next, piece);
     }
     next
 }
 
+#[tactic(auto, using(numbers::proofs::Buffers::buffer_size, numbers::proofs::Buffers::end_part))]
 pub fn put_natural(page: &mut [u8], at: usize, n: u64) -> usize
     ensures { Added (decimal (pos n)) page.old at page.new result }
 {
@@ -40,68 +54,52 @@ pub fn put_natural(page: &mut [u8], at: usize, n: u64) -> usize
     put(page, at, &digits[from..])
 }
 
-// A number in the place of the sign, and any other byte as it is.
-fn put_filled(page: &mut [u8], at: usize, b: u8, n: u64) -> usize
-    ensures { Added (cond (eqb b 35) (decimal (pos n)) (b ∷ [])) page.old at page.new result }
+// A form, with the next of the numbers in the place of each sign `#`, and 0 where there is none.
+pub fn fill(page: &mut [u8], at: usize, form: &[u8], numbers: &[u64]) -> usize
+    ensures { Added (filled form.now numbers.now) page.old at page.new result }
 {
-    if b == b'#' {
-        return put_natural(page, at, n);
-    }
-    put_byte(page, at, b)
-}
-
-fn number_at(numbers: [u64; 3], k: usize) -> u64
-    ensures { result ≡ get_or numbers k 0 }
-{
-    if k < 3 {
-        return numbers[k];
-    }
-    0
-}
-
-// A form, with the next of the numbers in the place of each sign `#`.
-pub fn fill(page: &mut [u8], at: usize, form: &[u8], numbers: [u64; 3]) -> usize
-    ensures { Added (filled form.now numbers) page.old at page.new result }
-{
-    let mut next = smaller(page.len(), at);
-    let mut i = 0;
-    let mut k = 0;
-    while i < form.len() {
-        let b = form[i];
-        next = put_filled(page, next, b, number_at(numbers, k));
-        k += (b == b'#') as usize;
-        i += 1;
+    let mut next = at.min(page.len());
+    let mut left = numbers.iter();
+    for b in form {
+        next = match *b {
+            b'#' => put_natural(page, next, left.next().copied().unwrap_or(0)),
+            other => put_byte(page, next, other),
+        };
     }
     next
 }
 
 // `refused N P`
+#[tactic(auto, unfolding(crate::specs::Lines::refusal_line, base::specs::Bytes::bytes, base::specs::Bytes::bytes_from))]
 pub fn refusal(page: &mut [u8], at: usize, number: u8, place: usize) -> usize
     ensures { Added (refusal_line number place) page.old at page.new result }
 {
-    fill(page, at, b"refused # #\n", [number as u64, place as u64, 0])
+    fill(page, at, b"refused # #\n", &[number as u64, place as u64])
 }
 
 // The line of a refused text.
-pub fn refused(page: &mut [u8], at: usize, why: Refusal, place: usize) -> usize
-    ensures { Added (refused_line why place) page.old at page.new result }
+#[tactic(auto, unfolding(crate::specs::Lines::refused_line))]
+pub fn refused(page: &mut [u8], at: usize, r: Refused) -> usize
+    ensures { Added (refused_line r.why r.place) page.old at page.new result }
 {
-    refusal(page, at, base::number(why), place)
+    refusal(page, at, base::number(r.why), r.place)
 }
 
 // `ending E steps S`
-pub fn ending(page: &mut [u8], at: usize, ending: u8, steps: u32) -> usize
-    ensures { Added (ending_line ending steps) page.old at page.new result }
+#[tactic(auto, unfolding(crate::specs::Lines::ending_line, base::specs::Bytes::bytes, base::specs::Bytes::bytes_from))]
+pub fn ending(page: &mut [u8], at: usize, ending: Ending, steps: u32) -> usize
+    ensures { Added (ending_line (number_of ending) steps) page.old at page.new result }
 {
     fill(
         page,
         at,
         b"ending # steps #\n",
-        [ending as u64, steps as u64, 0],
+        &[ending as u64, steps as u64],
     )
 }
 
 // `accepted I C N`
+#[tactic(auto, unfolding(crate::specs::Lines::accepted_line, base::specs::Bytes::bytes, base::specs::Bytes::bytes_from))]
 pub fn accepted(page: &mut [u8], at: usize, instructions: usize, cells: usize, need: usize) -> usize
     ensures { Added (accepted_line instructions cells need) page.old at page.new result }
 {
@@ -109,7 +107,7 @@ pub fn accepted(page: &mut [u8], at: usize, instructions: usize, cells: usize, n
         page,
         at,
         b"accepted # # #\n",
-        [instructions as u64, cells as u64, need as u64],
+        &[instructions as u64, cells as u64, need as u64],
     )
 }
 

@@ -1,8 +1,8 @@
 -- Laws of what is shown of a line. Assumes nothing.
-use mathlib.Core.Path.{◌≡◌, refl, sym}
+use mathlib.Core.Path.{◌≡◌, refl, sym, ap, ◌∙◌}
 use mathlib.Core.List.{List, [], ◌∷◌, ◌++◌, map}
 use mathlib.Core.Bool.{Bool, true, false, cond}
-use Prim.Native.Nat.{ℕ, suc, ◌+◌, ◌-◌, ◌*◌, ◌≤◌, ◌<◌, min}
+use Prim.Native.Nat.{ℕ, zero, suc, ◌+◌, ◌-◌, ◌*◌, ◌≤◌, ◌<◌, min}
 use native.Mathlib.Nat.{min-eq_left, min-eq_right}
 use native.Mathlib.Numerals.{add-one}
 use native.Mathlib.Omega.{arith}
@@ -12,9 +12,9 @@ use lib.ListN.{length, take, drop, length-take, length-drop, drop_of_length-le, 
 use lib.Seq.{take_all, take-length, drop-length, drop-cons}
 use mir.Val.{bool_byte}
 use Rattle.base.specs.Bytes.{bytes, bytes_from, run}
-use Rattle.base.specs.inner.Parts.{part}
 use Rattle.base.proofs.Runs.{run_fits, run_take}
 use Rattle.lines.specs.Added.{Added}
+use Rattle.lines.specs.Times.{times}
 use Rattle.place.specs.Places.{goes_on, no_line_feed, within, line_start, before, from_place}
 use Rattle.marks.specs.Shown.{Widths, seen, shown_from, shown_to, only, line, mark, marked, marked_line}
 
@@ -69,38 +69,29 @@ to_fits next rest bs e = omega (arith, run_fits goes_on (take rest (drop next bs
 pub seen_on : (bs : List ℕ) (i : ℕ) → i < length bs → map seen (drop i bs) ≡ (seen (get_or bs i 0) ∷ []) ++ map seen (drop (i + 1) bs)
 seen_on bs i h = rw (add-one i, drop-cons bs i 0 h)
 
--- a byte so many times, and the dots and the spaces of a line
-module _ (b n i : ℕ) where
-  pub times_on : i < n → replicate (n - i) b ≡ (b ∷ []) ++ replicate (n - (i + 1)) b
-  times_on h = let e : n - i ≡ suc (n - (i + 1)) = omega arith in rw e
+-- a byte so many times is one cell each
+pub cells : (n b : ℕ) → times n (b ∷ []) ≡ replicate n b
+unfolding times
+cells zero b = refl
+cells (suc n) b = ap (λ (l : List ℕ). b ∷ l) (cells n b)
 
-  pub times_out : n ≤ i → replicate (n - i) b ≡ []
-  times_out h = let e : n - i ≡ 0 = omega arith in rw e
-
-pub times_start : (b n : ℕ) → replicate n b ≡ replicate (n - 0) b
-times_start b n = let e : n - 0 ≡ n = omega arith in rw e
-
-pub dots : (t : Bool) → replicate (3 * bool_byte t) 46 ≡ only t (bytes "...")
+pub spaces : (t : Bool) (k : ℕ) → times (2 + 3 * bool_byte t + k) (32 ∷ []) ≡ bytes "  " ++ only t (bytes "   ") ++ replicate k 32
 unfolding only bytes bytes_from
-dots true = refl
-dots false = refl
-
-pub spaces : (t : Bool) (k : ℕ) → replicate (2 + 3 * bool_byte t + k) 32 ≡ bytes "  " ++ only t (bytes "   ") ++ replicate k 32
-unfolding only bytes bytes_from
-spaces true k = sym (replicate-append-replicate {A = ℕ} 5 k 32)
-spaces false k = sym (replicate-append-replicate {A = ℕ} 2 k 32)
+spaces t k = cells (2 + 3 * bool_byte t + k) 32 ∙ by t
+  where
+    by : (t : Bool) → replicate (2 + 3 * bool_byte t + k) 32 ≡ bytes "  " ++ only t (bytes "   ") ++ replicate k 32
+    by true = sym (replicate-append-replicate {A = ℕ} 5 k 32)
+    by false = sym (replicate-append-replicate {A = ℕ} 2 k 32)
 
 pub same_adds : {s t page page' : List ℕ} {at end : ℕ} → s ≡ t → Added s page at page' end → Added t page at page' end
 same_adds e a = rw e at a
 
 -- the two lines, from parts
-pub marked_parts : (w : Widths) (bs cs : List ℕ) (from to : ℕ) → from ≡ shown_from w.whole w.last bs → to ≡ shown_to w.next w.rest cs → line (ltb 0 from) (part bs from (length bs)) (part cs 0 to) (ltb to (length cs)) ++ mark (ltb 0 from) (part bs from (length bs)) ≡ marked w bs cs
-unfolding marked part
-marked_parts w bs cs from to ef et = let z : to - 0 ≡ to = omega arith in rw (z, to_end bs from, ef, et)
+pub marked_parts : (w : Widths) (bs cs : List ℕ) (from to : ℕ) → from ≡ shown_from w.whole w.last bs → to ≡ shown_to w.next w.rest cs → line (ltb 0 from) (drop from bs) (take to cs) (ltb to (length cs)) ++ mark (ltb 0 from) (drop from bs) ≡ marked w bs cs
+unfolding marked
+marked_parts w bs cs from to ef et = rw (ef, et)
 
 -- the same, from parts of the text
-pub marked_text : (w : Widths) (text : List ℕ) (place p start r : ℕ) → p ≡ within text place → start ≡ line_start text p → r ≡ length (run no_line_feed (part text p (length text))) → marked w (part text start p) (part (part text p (length text)) 0 r) ≡ marked_line w text place
-unfolding marked_line before from_place part
-marked_text w text place p start r ep es er =
-    let z : r - 0 ≡ r = omega arith in
-    rw (z, er, to_end text p, run_take no_line_feed (drop p text), es, ep)
+pub marked_text : (w : Widths) (text : List ℕ) (place p start r : ℕ) → p ≡ within text place → start ≡ line_start text p → r ≡ length (run no_line_feed (drop p text)) → marked w (take (p - start) (drop start text)) (take r (drop p text)) ≡ marked_line w text place
+unfolding marked_line before from_place
+marked_text w text place p start r ep es er = rw (er, run_take no_line_feed (drop p text), es, ep)

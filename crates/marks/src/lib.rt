@@ -1,14 +1,13 @@
 // How the line of a place is shown, with a mark under the place.
 #![tactic(auto)]
 
-ghost use Rattle.std.specs.Prelude.{◌≡◌, ◌++◌, map, replicate};
+ghost use Rattle.std.specs.Prelude.{◌≡◌, ◌++◌, map};
 ghost use Rattle.base.specs.Bytes.{bytes};
 ghost use Rattle.lines.specs.Added.{Added};
 ghost use Rattle.marks.specs.Shown.{seen, shown_from, shown_to, only, line, mark, marked, marked_line, the_widths};
 
-use base::{part, smaller};
-use lines::{put, put_byte};
-use place::{Such, count, run, within};
+use lines::{put, put_byte, put_many};
+use place::{begins, count, goes_on, is_line_feed, run, within};
 
 // How much of a line is shown. Each number stands here and nowhere else: code and contracts read it from here.
 #[derive(Drop)]
@@ -28,6 +27,7 @@ impl Window {
     pub const REST: usize = 3;
 }
 
+#[tactic(auto, unfolding(crate::specs::Shown::seen))]
 fn seen(b: u8) -> u8
     ensures { result ≡ seen b }
 {
@@ -40,57 +40,50 @@ fn seen(b: u8) -> u8
 
 // Where what is shown of the bytes before a place begins.
 fn shown_from(before: &[u8]) -> usize
-    ensures { result ≡ shown_from Window.WHOLE Window.LAST before.now }
+    ensures { result ≡ shown_from the_widths.whole the_widths.last before.now }
 {
     if before.len() <= Window::WHOLE {
         return 0;
     }
     let from = before.len() - Window::LAST;
-    from + run(&before[from..], Such::GoesOn)
+    from + run(&before[from..], goes_on)
 }
 
 // Where what is shown of the bytes from a place on ends.
 fn shown_to(after: &[u8]) -> usize
-    ensures { result ≡ shown_to Window.NEXT Window.REST after.now }
+    ensures { result ≡ shown_to the_widths.next the_widths.rest after.now }
 {
     let next = within(after, Window::NEXT);
     let others = &after[next..];
     let rest = within(others, Window::REST);
-    next + run(&others[..rest], Such::GoesOn)
+    next + run(&others[..rest], goes_on)
 }
 
 // Bytes as they are seen, added to a page.
 fn put_seen(page: &mut [u8], at: usize, bytes: &[u8]) -> usize
     ensures { Added (map seen bytes.now) page.old at page.new result }
 {
-    let mut next = smaller(page.len(), at);
-    let mut i = 0;
-    while i < bytes.len() {
-        next = put_byte(page, next, seen(bytes[i]));
-        i += 1;
+    let mut next = at.min(page.len());
+    for b in bytes {
+        next = put_byte(page, next, seen(*b));
     }
     next
 }
 
-// A byte so many times, added to a page.
-fn put_times(page: &mut [u8], at: usize, n: usize, b: u8) -> usize
-    ensures { Added (replicate n b) page.old at page.new result }
+// Bytes that are written only in one case.
+#[tactic(auto, unfolding(crate::specs::Shown::only))]
+fn put_only(page: &mut [u8], at: usize, written: bool, bytes: &[u8]) -> usize
+    ensures { Added (only written bytes.now) page.old at page.new result }
 {
-    let mut next = smaller(page.len(), at);
-    let mut i = 0;
-    while i < n {
-        next = put_byte(page, next, b);
-        i += 1;
-    }
-    next
+    put(page, at, if written { bytes } else { &[] })
 }
 
 // The line up to the place, by what is shown before it, and whether something is left out in front.
 fn put_front(page: &mut [u8], at: usize, front: bool, before: &[u8]) -> usize
     ensures { Added (bytes "  " ++ only front (bytes "...") ++ map seen before.now) page.old at page.new result }
 {
-    let a = put_times(page, at, 2, b' ');
-    let b = put_times(page, a, 3 * (front as usize), b'.');
+    let a = put(page, at, b"  ");
+    let b = put_only(page, a, front, b"...");
     put_seen(page, b, before)
 }
 
@@ -107,15 +100,15 @@ fn put_line(
 {
     let a = put_front(page, at, front, before);
     let b = put_seen(page, a, after);
-    let c = put_times(page, b, 3 * (behind as usize), b'.');
+    let c = put_only(page, b, behind, b"...");
     put_byte(page, c, b'\n')
 }
 
 fn put_mark(page: &mut [u8], at: usize, front: bool, before: &[u8]) -> usize
     ensures { Added (mark front before.now) page.old at page.new result }
 {
-    let cells = 2 + 3 * (front as usize) + count(before, Such::Begins);
-    let a = put_times(page, at, cells, b' ');
+    let cells = 2 + 3 * (front as usize) + count(before, begins);
+    let a = put_many(page, at, b" ", cells);
     put(page, a, b"^\n")
 }
 
@@ -125,15 +118,8 @@ fn put_marked(page: &mut [u8], at: usize, before: &[u8], after: &[u8]) -> usize
 {
     let from = shown_from(before);
     let to = shown_to(after);
-    let shown = part(before, from, before.len());
-    let next = put_line(
-        page,
-        at,
-        0 < from,
-        shown,
-        part(after, 0, to),
-        to < after.len(),
-    );
+    let shown = &before[from..];
+    let next = put_line(page, at, 0 < from, shown, &after[..to], to < after.len());
     put_mark(page, next, 0 < from, shown)
 }
 
@@ -143,7 +129,7 @@ pub fn put_marked_line(page: &mut [u8], at: usize, text: &[u8], place: usize) ->
 {
     let p = within(text, place);
     let spot = place::spot_of(text, place);
-    let rest = part(text, p, text.len());
-    let end = run(rest, Such::NoFeed);
-    put_marked(page, at, part(text, spot.start, p), part(rest, 0, end))
+    let rest = &text[p..];
+    let end = run(rest, |b| !is_line_feed(b));
+    put_marked(page, at, &text[spot.start..p], &rest[..end])
 }

@@ -10,7 +10,7 @@ use Rattle.words.specs.declared.Numbers.{Numbers}
 use Rattle.words.specs.declared.Row.{Row}
 
 -- which row, and the number in the place of its sign
-abbrev row : ℕ → ℕ → Row
+abbrev pub row : ℕ → ℕ → Row
 row line number = record { line = line; number = number }
 
 unfoldable pub in_words : List ℕ → Row → List ℕ

@@ -2,10 +2,12 @@
 #![tactic(auto)]
 
 ghost use Rattle.std.specs.Prelude.{◌≡◌, cond, ◌≤◌, length, get_or};
+ghost use Rattle.endings.specs.Endings.{number_of};
 ghost use Rattle.lines.specs.Added.{Added};
-ghost use Rattle.words.specs.Words.{no_lexeme, too_large, why_row, how_row, in_words, why, how};
+ghost use Rattle.words.specs.Words.{no_lexeme, too_large, row, why_row, how_row, in_words, why, how};
 
-use base::Refusal;
+use base::{Refusal, Refused};
+use endings::Ending;
 use limits::{Limits, Station};
 
 // The numbers that the words name.
@@ -48,52 +50,42 @@ struct Row {
     number: u64,
 }
 
+impl Row {
+    fn new(line: usize, number: u64) -> Row
+        ensures { result ≡ row line number }
+    {
+        Row { line, number }
+    }
+}
+
 // The byte at a place, or 0 past the text.
 fn byte_at(text: &[u8], place: usize) -> u8
     ensures { result ≡ get_or text.now place 0 }
 {
-    if place < text.len() {
-        return text[place];
-    }
-    0
+    text.get(place).copied().unwrap_or(0)
 }
 
+#[tactic(auto, unfolding(crate::specs::Words::no_lexeme))]
 fn no_lexeme(b: u8) -> usize
     ensures { result ≡ no_lexeme b }
 {
-    if b == b'"' {
-        return 1;
+    match b {
+        b'"' => 1,
+        b':' => 2,
+        _ if base::is_letter_or_digit(b) => 3,
+        128..=255 => 4,
+        _ => 5,
     }
-    if b == b':' {
-        return 2;
-    }
-    if base::is_letter_or_digit(b) {
-        return 3;
-    }
-    if 128 <= b {
-        return 4;
-    }
-    5
 }
 
+#[tactic(auto, unfolding(crate::specs::Words::too_large))]
 fn too_large(n: Numbers, b: u8) -> Row
     ensures { result ≡ too_large n b }
 {
-    if b == b'"' {
-        return Row {
-            line: 6,
-            number: n.string as u64,
-        };
-    }
-    if base::is_digit(b) {
-        return Row {
-            line: 7,
-            number: n.literal as u64,
-        };
-    }
-    Row {
-        line: 8,
-        number: n.word as u64,
+    match b {
+        b'"' => Row::new(6, n.string as u64),
+        _ if base::is_digit(b) => Row::new(7, n.literal as u64),
+        _ => Row::new(8, n.word as u64),
     }
 }
 
@@ -103,83 +95,47 @@ fn cannot_stand(ends: bool) -> usize
     if ends { 9 } else { 10 }
 }
 
-fn why_row(n: Numbers, text: &[u8], refusal: Refusal, place: usize) -> Row
-    ensures { result ≡ why_row n text.now refusal place }
+#[tactic(auto, unfolding(crate::specs::Words::why_row))]
+fn why_row(n: Numbers, text: &[u8], r: Refused) -> Row
+    ensures { result ≡ why_row n text.now r.why r.place }
 {
-    match refusal {
-        Refusal::TooLong => Row {
-            line: 0,
-            number: n.text as u64,
-        },
-        Refusal::NoLexeme => Row {
-            line: no_lexeme(byte_at(text, place)),
-            number: 0,
-        },
-        Refusal::TooLarge => too_large(n, byte_at(text, place)),
-        Refusal::NoProgram => Row {
-            line: cannot_stand(text.len() <= place),
-            number: 0,
-        },
-        Refusal::TooDeep => Row {
-            line: 11,
-            number: n.nesting as u64,
-        },
-        Refusal::Undeclared => Row {
-            line: 12,
-            number: 0,
-        },
-        Refusal::TooManyDeclared => Row {
-            line: 13,
-            number: n.declarations as u64,
-        },
-        Refusal::TooMuchCode => Row {
-            line: 14,
-            number: n.instructions as u64,
-        },
+    match r.why {
+        Refusal::TooLong => Row::new(0, n.text as u64),
+        Refusal::NoLexeme => Row::new(no_lexeme(byte_at(text, r.place)), 0),
+        Refusal::TooLarge => too_large(n, byte_at(text, r.place)),
+        Refusal::NoProgram => Row::new(cannot_stand(text.len() <= r.place), 0),
+        Refusal::TooDeep => Row::new(11, n.nesting as u64),
+        Refusal::Undeclared => Row::new(12, 0),
+        Refusal::TooManyDeclared => Row::new(13, n.declarations as u64),
+        Refusal::TooMuchCode => Row::new(14, n.instructions as u64),
     }
 }
 
-fn how_row(n: Numbers, ending: u8) -> Row
-    ensures { result ≡ how_row n ending }
+#[tactic(auto, unfolding(crate::specs::Words::how_row))]
+fn how_row(n: Numbers, ending: Ending) -> Row
+    ensures { result ≡ how_row n (number_of ending) }
 {
-    if ending == 2 {
-        return Row {
-            line: 2,
-            number: n.budget as u64,
-        };
-    }
-    if ending == 7 {
-        return Row {
-            line: 7,
-            number: n.room as u64,
-        };
-    }
-    Row {
-        line: base::smaller(ending as usize, 8),
-        number: 0,
+    match ending {
+        Ending::BudgetSpent => Row::new(2, n.budget as u64),
+        Ending::PrintDoesNotFit => Row::new(7, n.room as u64),
+        other => Row::new(other as usize, 0),
     }
 }
 
+#[tactic(auto, unfolding(crate::specs::Words::in_words))]
 fn put_row(page: &mut [u8], at: usize, table: &[u8], row: Row) -> usize
     ensures { Added (in_words table.now row) page.old at page.new result }
 {
     let form = rows::nth(table, b'\n', row.line);
-    lines::fill(page, at, form, [row.number, 0, 0])
+    lines::fill(page, at, form, &[row.number])
 }
 
 // Why a text is refused.
-pub fn put_why(
-    page: &mut [u8],
-    at: usize,
-    n: Numbers,
-    text: &[u8],
-    refusal: Refusal,
-    place: usize,
-) -> usize
-    ensures added { Added (why n text.now refusal place) page.old at page.new result }
-    ensures short { length (why n text.now refusal place) ≤ 160 }
+pub fn put_why(page: &mut [u8], at: usize, n: Numbers, text: &[u8], r: Refused) -> usize
+    ensures added { Added (why n text.now r.why r.place) page.old at page.new result }
+    ensures short { length (why n text.now r.why r.place) ≤ 160 }
 {
-    let row = why_row(n, text, refusal, place);
+    let row = why_row(n, text, r);
     put_row(
         page,
         at,
@@ -204,9 +160,9 @@ The program is too long: its code may have # instructions. Make it shorter.
 }
 
 // How a run ended.
-pub fn put_how(page: &mut [u8], at: usize, n: Numbers, ending: u8) -> usize
-    ensures added { Added (how n ending) page.old at page.new result }
-    ensures short { length (how n ending) ≤ 160 }
+pub fn put_how(page: &mut [u8], at: usize, n: Numbers, ending: Ending) -> usize
+    ensures added { Added (how n (number_of ending)) page.old at page.new result }
+    ensures short { length (how n (number_of ending)) ≤ 160 }
 {
     let row = how_row(n, ending);
     put_row(

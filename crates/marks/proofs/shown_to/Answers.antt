@@ -1,8 +1,7 @@
 -- `marks::shown_to` meets its contract. Assumes nothing.
-use mathlib.Core.Path.{sym}
-use native.Mathlib.Omega.{arith}
+use Rattle.std.proofs.Common.{arith, rules, sym}
 use lib.Seq.{length-take-le}
-use Rattle.place.specs.inner.Kinds.{such}
+use Rattle.place.specs.Places.{goes_on}
 use Rattle.place.proofs.Places.{within_fits}
 use Rattle.marks.proofs.Shown.{to_is, to_fits}
 use Rattle.marks.proofs.shown_to.Goals as goal
@@ -17,8 +16,7 @@ pub slice_bounds-run-end : goal.slice_bounds-run-end
 slice_bounds-run-end c = sym (length-take-le _ _ (within_fits _ _ c.within-rest.ensures))
 
 pub returns : goal.returns
-unfolding such
-returns c = to_is _ _ _ _ _ _ c.within-next.ensures c.within-rest.ensures c.run.ensures
+returns c = to_is _ _ _ _ _ _ c.within-next.ensures c.within-rest.ensures (c.run.ensures goes_on (λ b r e. search (rules, e)))
 
 pub overflow_add-result : goal.overflow_add-result
 overflow_add-result c = let h = to_fits _ _ _ (returns c) in omega arith
