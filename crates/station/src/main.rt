@@ -8,7 +8,7 @@ fn run(rt: &HostRuntime, text: &[u8], readings: &[i32]) -> ExitCode {
     let mut room = [0u8; Station::ROOM];
     let mut page = [0u8; tells::PAGE];
     let said = programs::station(text, readings, &mut room, &mut page);
-    desk::deliver(rt, &page[..said.out], b"", said.status)
+    desk::deliver(rt, &page[..said.out], b"", said.status as u8)
 }
 
 fn main(rt: HostRuntime) -> ExitCode {

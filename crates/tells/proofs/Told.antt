@@ -8,16 +8,18 @@ use borrow.Author.Tests.{eq-eqb, ne_eqb}
 use lib.Dec.{eqb, leb}
 use lib.ListN.{length, take, length-append}
 use lib.Seq.{take-length}
-use Rattle.base.specs.declared.Refusal.{Refusal}
+use Rattle.std.proofs.Common.{Ok, Err}
+use Rattle.base.specs.declared.Refused.{Refused}
+use Rattle.endings.specs.Endings.{number_of}
 use Rattle.machine.specs.declared.Report as Code
 use Rattle.reports.specs.Reports.{sendable}
-use Rattle.reports.specs.declared.Came.{Came}
-use Rattle.reports.specs.declared.Came.TheVariants as came
 use Rattle.lines.specs.Added.{Added}
 use Rattle.lines.specs.Lines.{line_end, refused_line, ending_line}
 use Rattle.lines.proofs.Short.{Small, short_ending}
 use Rattle.tells.specs.Tells.{status_of, said_of_run, sent}
-use Rattle.tells.specs.Writes.{Writes, with_output}
+use Rattle.tells.specs.Writes.{Writes, with_output, number}
+use Rattle.tells.specs.declared.Status.{Status}
+use Rattle.tells.specs.declared.Status.TheVariants.{Good, NotGood}
 use Rattle.tells.proofs.Pages.{said_bytes, said_page, untouched, output_short}
 
 pub told_short : (k e s : ℕ) (room : List ℕ) → Small e → Small s → length (take k room ++ line_end ++ ending_line e s) ≤ length room + 96
@@ -34,31 +36,25 @@ sendable_short e output room h = by (eqb e 0 && leb (length output) (length outp
 
 -- ---- what each program says, by what came
 
-module _ (room : List ℕ) {page page' : List ℕ} {end : ℕ} {c : Came} where
-  module _ {why : Refusal} {p : ℕ} (is : c ≡ came.Refused why p) (short : length (refused_line why p) ≤ length page) (a : Added (refused_line why p) page 0 page' end) where
-    pub told_refused : Writes (said_of_run (with_output c room)) (record { out = end; err = 0; status = 1 }) page page' [] []
+module _ (room : List ℕ) {page page' : List ℕ} {end : ℕ} where
+  pub sent_refused : (r : Refused) {out : List ℕ} → length (refused_line r.why r.place) ≤ length page → Added (refused_line r.why r.place) page 0 page' end → Writes (sent (with_output (Err r) room)) (record { out = 0; err = end; status = NotGood }) out out page page'
+  unfolding sent with_output
+  sent_refused r {out} short a = record { written = refl; page = untouched out; noted = said_bytes a short; note = said_page a short; status = refl }
+
+  module _ (r : Code.Report) where
+    pub told_ran : (status : Status) → number status ≡ status_of (number_of r.ending) → length (take r.length room ++ line_end ++ ending_line (number_of r.ending) r.steps) ≤ length page → Added (take r.length room ++ line_end ++ ending_line (number_of r.ending) r.steps) page 0 page' end → Writes (said_of_run (with_output (Ok r) room)) (record { out = end; err = 0; status = status }) page page' [] []
     unfolding said_of_run with_output
-    told_refused = rw is (record { written = said_bytes a short; page = said_page a short; noted = refl; note = untouched []; status = refl })
+    told_ran status e short a = record { written = said_bytes a short; page = said_page a short; noted = refl; note = untouched []; status = e }
 
-    pub sent_refused : {out : List ℕ} → Writes (sent (with_output c room)) (record { out = 0; err = end; status = 1 }) out out page page'
-    unfolding sent with_output
-    sent_refused {out} = rw is (record { written = refl; page = untouched out; noted = said_bytes a short; note = said_page a short; status = refl })
-
-  module _ {r : Code.Report} (is : c ≡ came.Ran r) where
-    module _ {status : ℕ} (e : status ≡ status_of r.ending) where
-      pub told_ran : length (take r.length room ++ line_end ++ ending_line r.ending r.steps) ≤ length page → Added (take r.length room ++ line_end ++ ending_line r.ending r.steps) page 0 page' end → Writes (said_of_run (with_output c room)) (record { out = end; err = 0; status = status }) page page' [] []
-      unfolding said_of_run with_output
-      told_ran short a = rw is (record { written = said_bytes a short; page = said_page a short; noted = refl; note = untouched []; status = e })
-
-    module _ (short : length (take r.length room) ≤ length page) (a : Added (sendable r.ending (length (take r.length room)) (take r.length room)) page 0 page' end) where
-      pub sent_ran : {note : List ℕ} → r.ending ≡ 0 → Writes (sent (with_output c room)) (record { out = end; err = 0; status = 0 }) page page' note note
+    module _ (short : length (take r.length room) ≤ length page) (a : Added (sendable (number_of r.ending) (length (take r.length room)) (take r.length room)) page 0 page' end) where
+      pub sent_ran : {note : List ℕ} → number_of r.ending ≡ 0 → Writes (sent (with_output (Ok r) room)) (record { out = end; err = 0; status = Good }) page page' note note
       unfolding sent with_output status_of
       sent_ran {note} e =
-          let fits = sendable_short r.ending (take r.length room) (length page) short in
-          rw (is, eq-eqb r.ending 0 e) (record { written = said_bytes a fits; page = said_page a fits; noted = refl; note = untouched note; status = refl })
+          let fits = sendable_short (number_of r.ending) (take r.length room) (length page) short in
+          rw (eq-eqb (number_of r.ending) 0 e) (record { written = said_bytes a fits; page = said_page a fits; noted = refl; note = untouched note; status = refl })
 
-      pub sent_not : {note note' : List ℕ} {size : ℕ} → (r.ending ≡ 0 → ⊥) → length (ending_line r.ending r.steps) ≤ length note → Added (ending_line r.ending r.steps) note 0 note' size → Writes (sent (with_output c room)) (record { out = end; err = size; status = 1 }) page page' note note'
+      pub sent_not : {note note' : List ℕ} {size : ℕ} → (number_of r.ending ≡ 0 → ⊥) → length (ending_line (number_of r.ending) r.steps) ≤ length note → Added (ending_line (number_of r.ending) r.steps) note 0 note' size → Writes (sent (with_output (Ok r) room)) (record { out = end; err = size; status = NotGood }) page page' note note'
       unfolding sent with_output status_of
       sent_not e few b =
-          let fits = sendable_short r.ending (take r.length room) (length page) short in
-          rw (is, ne_eqb r.ending 0 e) (record { written = said_bytes a fits; page = said_page a fits; noted = said_bytes b few; note = said_page b few; status = refl })
+          let fits = sendable_short (number_of r.ending) (take r.length room) (length page) short in
+          rw (ne_eqb (number_of r.ending) 0 e) (record { written = said_bytes a fits; page = said_page a fits; noted = said_bytes b few; note = said_page b few; status = refl })

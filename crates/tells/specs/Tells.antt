@@ -1,12 +1,12 @@
 -- Document 01, "What the kit holds": what each program says of an answer, and of what came of a text.
-use Rattle.std.specs.Prelude.{List, [], ◌++◌, cond, ℕ, ◌*◌, eqb, ℤ, length, take}
+use Rattle.std.specs.Prelude.{List, [], ◌++◌, cond, ℕ, ◌*◌, eqb, ℤ, length, take, Result, Ok, Err}
 use Rattle.base.specs.declared.Refusal.{Refusal}
+use Rattle.base.specs.declared.Refused.{Refused}
 use Rattle.base.specs.Answers as A
 use Rattle.base.specs.Answers.{given, refused}
 use Rattle.endings.specs.Endings.{normal}
 use Rattle.rules.specs.Machine.{Report}
-use Rattle.tables.specs.declared.Answer.{Answer}
-use Rattle.tables.specs.declared.Answer.TheVariants.{Accepted, Refused}
+use Rattle.tables.specs.declared.Counts.{Counts}
 use Rattle.reports.specs.Reports.{sendable}
 use Rattle.lines.specs.Lines.{line_end, refused_line, ending_line, accepted_line}
 use Rattle.pairs.specs.Pairs.{table_lines}
@@ -33,9 +33,9 @@ abbrev pub listing : ℕ → ℕ → ℕ → List ℤ → Said
 listing instructions cells need code = record { out = accepted_line instructions cells need ++ table_lines code; err = []; status = good }
 
 -- of an answer as the code gives it, with its table
-unfoldable pub said_of_answer : Answer → List ℤ → Said
-said_of_answer (Accepted k) table = listing k.instructions k.cells k.need (take (k.instructions * 2) table)
-said_of_answer (Refused why p) table = refusal why p
+unfoldable pub said_of_answer : Result Counts Refused → List ℤ → Said
+said_of_answer (Ok k) table = listing k.instructions k.cells k.need (take (k.instructions * 2) table)
+said_of_answer (Err r) table = refusal r.why r.place
 
 -- ---- of a run: good exactly with ending 0
 

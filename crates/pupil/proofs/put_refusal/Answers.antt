@@ -12,4 +12,4 @@ pub returns : goal.returns
 unfolding shown_refusal
 returns c =
     let few : length c.args.text.now < 18446744073709551615 = search rules in
-    record { added = adds_then (adds_then c.put_where-a.ensures c.put_why-b.ensures.added) c.put_byte.ensures; short = short_refusal _ c.args.text.now c.args.why c.args.place c.args.n few (marked_fits _ c.args.text.now c.args.place) c.put_why-b.ensures.short }
+    record { added = adds_then (adds_then c.put_where-a.ensures c.put_why-b.ensures.added) c.put_byte.ensures; short = short_refusal _ c.args.text.now c.args.r.why c.args.r.place c.args.n few (marked_fits _ c.args.text.now c.args.r.place) c.put_why-b.ensures.short }

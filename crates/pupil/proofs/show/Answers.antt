@@ -1,19 +1,16 @@
 -- `pupil::show` meets its contract. Assumes nothing.
-use Prim.Native.Nat.{◌+◌, ◌≤◌}
-use native.Mathlib.Omega.{arith}
-use lib.ListN.{length}
+use Rattle.std.proofs.Common.{◌+◌, ◌≤◌, length, arith, rules}
 use Rattle.tells.proofs.Pages.{output_short}
 use Rattle.pupil.proofs.Shows.{shown_refused, shown_ran}
-use borrow.Author.Rules.{rules}
 use Rattle.pupil.proofs.show.Goals as goal
 
-pub returns-in-Refused : goal.returns-in-Refused
-returns-in-Refused c =
+pub returns-in-Err : goal.returns-in-Err
+returns-in-Err c =
     let l : 512 ≤ length c.args.page.now = search rules in
-    shown_refused _ c.args.n c.args.text.now c.args.room.now c.in-Refused.is (omega (arith, c.put_refusal.ensures.short, l)) c.put_refusal.ensures.added
+    rw c.in-Err.is (shown_refused _ c.args.n c.args.text.now c.args.room.now c.in-Err.r (omega (arith, c.put_refusal.ensures.short, l)) c.put_refusal.ensures.added)
 
-pub returns-in-Ran : goal.returns-in-Ran
-returns-in-Ran c =
+pub returns-in-Ok : goal.returns-in-Ok
+returns-in-Ok c =
     let l : length c.args.room.now + 512 ≤ length c.args.page.now = search rules in
     let x = rw c.output.ensures at c.put_run.ensures in
-    shown_ran _ c.args.n c.args.text.now c.args.room.now c.in-Ran.is c.status_of.ensures (omega (arith, x.short, output_short c.in-Ran.r.length c.args.room.now, l)) x.added
+    rw c.in-Ok.is (shown_ran _ c.args.n c.args.text.now c.args.room.now c.in-Ok.r c.status_of.result c.status_of.ensures (omega (arith, x.short, output_short c.in-Ok.r.length c.args.room.now, l)) x.added)

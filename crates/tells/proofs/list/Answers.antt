@@ -1,24 +1,20 @@
 -- `tells::list` meets its contract. Assumes nothing.
-use Prim.Native.Nat.{◌+◌, ◌*◌, ◌/◌, ◌≤◌}
-use native.Mathlib.Omega.{arith}
-use lib.ListN.{length}
+use Rattle.std.proofs.Common.{◌+◌, ◌*◌, ◌/◌, ◌≤◌, length, arith, rules}
 use Rattle.lines.proofs.Adds.{adds_then}
-use Rattle.lines.proofs.Short.{Small, short_refused}
-use Rattle.tells.proofs.Listings.{listed_refused, listed_accepted, listing_short}
-use borrow.Author.Rules.{rules}
+use Rattle.lines.proofs.Short.{Small}
+use Rattle.tells.specs.Tells.{said_of_answer}
+use Rattle.tells.proofs.Listings.{listed_accepted, listing_short}
 use Rattle.tells.proofs.list.Goals as goal
 
-pub returns-in-Refused : goal.returns-in-Refused
-returns-in-Refused c =
-    let p : Small c.in-Refused.place = search rules in
-    let l : 96 ≤ length c.args.page.now = search rules in
-    listed_refused c.args.table.now c.in-Refused.is (omega (arith, short_refused c.in-Refused.why c.in-Refused.place p, l)) c.refused.ensures
+pub returns-in-Err : goal.returns-in-Err
+unfolding said_of_answer
+returns-in-Err c = rw c.in-Err.is c.tell_refusal.ensures
 
-pub returns-in-Accepted : goal.returns-in-Accepted
-returns-in-Accepted c =
-    let hi : Small c.in-Accepted.c.instructions = search rules in
-    let hc : Small c.in-Accepted.c.cells = search rules in
-    let hm : Small c.in-Accepted.c.need = search rules in
+pub returns-in-Ok : goal.returns-in-Ok
+returns-in-Ok c =
+    let hi : Small c.in-Ok.c.instructions = search rules in
+    let hc : Small c.in-Ok.c.cells = search rules in
+    let hm : Small c.in-Ok.c.need = search rules in
     let l : 96 + length c.args.table.now / 2 * 65 ≤ length c.args.page.now = search rules in
     let all = rw c.code.ensures at c.instructions.ensures in
-    listed_accepted c.args.table.now c.in-Accepted.is (omega (arith, listing_short _ _ _ (c.in-Accepted.c.instructions * 2) c.args.table.now hi hc hm all.short, l)) (adds_then c.accepted-at.ensures all.added)
+    rw c.in-Ok.is (listed_accepted c.args.table.now c.in-Ok.c (omega (arith, listing_short _ _ _ (c.in-Ok.c.instructions * 2) c.args.table.now hi hc hm all.short, l)) (adds_then c.accepted-at.ensures all.added))

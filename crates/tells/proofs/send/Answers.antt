@@ -1,32 +1,34 @@
 -- `tells::send` meets its contract. Assumes nothing.
-use Prim.Native.Nat.{◌≤◌}
-use native.Mathlib.Omega.{arith}
-use lib.ListN.{length}
-use Rattle.lines.proofs.Short.{Small, short_refused, short_ending}
+use Rattle.std.proofs.Common.{◌≤◌, length, arith, rules}
+use Rattle.endings.specs.Endings.{number_of}
+use Rattle.endings.specs.declared.Ending.TheVariants.{Normal}
+use Rattle.endings.proofs.Unique.{one_ending}
+use Rattle.lines.proofs.Short.{Small, small_ending, short_refused, short_ending}
 use Rattle.tells.proofs.Pages.{output_short}
 use Rattle.tells.proofs.Told.{sent_refused, sent_ran, sent_not}
-use borrow.Author.Rules.{rules}
 use Rattle.tells.proofs.send.Goals as goal
 
-pub returns-then-r-eq0 : goal.returns-then-r-eq0
-returns-then-r-eq0 c =
-    let l : length c.args.room.now ≤ length c.args.page.now = search rules in
-    let few = output_short c.in-Ran.r.length c.args.room.now in
-    let all = rw (c.to_send.ensures, c.output-all.ensures) at c.put-out.ensures in
-    sent_ran c.args.room.now c.in-Ran.is (omega arith) all c.if-r-eq0.true
-
-pub returns-in-Refused : goal.returns-in-Refused
-returns-in-Refused c =
-    let p : Small c.in-Refused.place = search rules in
+pub returns-in-Err : goal.returns-in-Err
+returns-in-Err c =
+    let p : Small c.in-Err.r.place = search rules in
     let l : 96 ≤ length c.args.note.now = search rules in
-    sent_refused c.args.room.now c.in-Refused.is (omega (arith, short_refused c.in-Refused.why c.in-Refused.place p, l)) c.refused.ensures
+    rw c.in-Err.is (sent_refused c.args.room.now c.in-Err.r (omega (arith, short_refused c.in-Err.r.why c.in-Err.r.place p, l)) c.refused.ensures)
 
-pub returns-else-r-eq0 : goal.returns-else-r-eq0
-returns-else-r-eq0 c =
+pub returns-in-Normal : goal.returns-in-Normal
+returns-in-Normal c =
+    let r = c.in-Ok.r in
     let l : length c.args.room.now ≤ length c.args.page.now = search rules in
-    let few = output_short c.in-Ran.r.length c.args.room.now in
+    let few = output_short r.length c.args.room.now in
     let all = rw (c.to_send.ensures, c.output-all.ensures) at c.put-out.ensures in
-    let e : Small c.in-Ran.r.ending = search rules in
-    let n : Small c.in-Ran.r.steps = search rules in
+    rw c.in-Ok.is (sent_ran c.args.room.now r (omega arith) all (rw c.in-Normal.is))
+
+pub returns-in_default : goal.returns-in_default
+returns-in_default c =
+    let r = c.in-Ok.r in
+    let l : length c.args.room.now ≤ length c.args.page.now = search rules in
+    let few = output_short r.length c.args.room.now in
+    let all = rw (c.to_send.ensures, c.output-all.ensures) at c.put-out.ensures in
+    let e : Small (number_of r.ending) = omega (arith, small_ending r.ending) in
+    let n : Small r.steps = search rules in
     let k : 96 ≤ length c.args.note.now = search rules in
-    sent_not c.args.room.now c.in-Ran.is (omega arith) all c.if-r-eq0.false (omega (arith, short_ending c.in-Ran.r.ending c.in-Ran.r.steps e n, k)) c.ending.ensures
+    rw c.in-Ok.is (sent_not c.args.room.now r (omega arith) all (λ z. c.in_default.not-Normal (one_ending r.ending Normal z)) (omega (arith, short_ending (number_of r.ending) r.steps e n, k)) c.ending.ensures)

@@ -1,24 +1,23 @@
 -- `tells::tell` meets its contract. Assumes nothing.
+use Rattle.std.proofs.Common.{◌+◌, ◌≤◌, length, arith, rules}
+use Rattle.endings.specs.Endings.{number_of}
 use Rattle.lines.proofs.Adds.{adds_then}
-use Rattle.lines.proofs.Short.{Small, short_refused}
-use Rattle.tells.proofs.Told.{told_refused, told_ran, told_short}
-use native.Mathlib.Omega.{arith}
-use Prim.Native.Nat.{◌+◌, ◌≤◌}
-use lib.ListN.{length}
-use borrow.Author.Rules.{rules}
+use Rattle.lines.proofs.Short.{Small, small_ending}
+use Rattle.tells.specs.Tells.{said_of_run}
+use Rattle.tells.specs.Writes.{with_output}
+use Rattle.tells.proofs.Told.{told_ran, told_short}
 use Rattle.tells.proofs.tell.Goals as goal
 
-pub returns-in-Refused : goal.returns-in-Refused
-returns-in-Refused c =
-    let p : Small c.in-Refused.place = search rules in
-    let l : 96 ≤ length c.args.page.now = search rules in
-    told_refused c.args.room.now c.in-Refused.is (omega (arith, short_refused c.in-Refused.why c.in-Refused.place p, l)) c.refused.ensures
+pub returns-in-Err : goal.returns-in-Err
+unfolding said_of_run with_output
+returns-in-Err c = rw c.in-Err.is c.tell_refusal.ensures
 
-pub returns-in-Ran : goal.returns-in-Ran
-returns-in-Ran c =
-    let e : Small c.in-Ran.r.ending = search rules in
-    let n : Small c.in-Ran.r.steps = search rules in
+pub returns-in-Ok : goal.returns-in-Ok
+returns-in-Ok c =
+    let r = c.in-Ok.r in
+    let e : Small (number_of r.ending) = omega (arith, small_ending r.ending) in
+    let n : Small r.steps = search rules in
     let l : length c.args.room.now + 96 ≤ length c.args.page.now = search rules in
-    told_ran c.args.room.now c.in-Ran.is c.status_of.ensures
-    (omega (arith, told_short c.in-Ran.r.length c.in-Ran.r.ending c.in-Ran.r.steps c.args.room.now e n, l))
-    (adds_then (adds_then (rw c.output.ensures at c.put-a.ensures) c.put-b.ensures) c.ending.ensures)
+    rw c.in-Ok.is (told_ran c.args.room.now r c.status_of.result c.status_of.ensures
+    (omega (arith, told_short r.length (number_of r.ending) r.steps c.args.room.now e n, l))
+    (adds_then (adds_then (rw c.output.ensures at c.put-a.ensures) c.put-b.ensures) c.ending.ensures))
