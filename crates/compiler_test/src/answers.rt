@@ -15,12 +15,7 @@ pub fn say_line(rt: &HostRuntime, bytes: &[u8]) -> io::Result<()> {
 }
 
 fn is_clean(table: &[i32], from: usize) -> bool {
-    for i in from..table.len() {
-        if table[i] != 0 {
-            return false;
-        }
-    }
-    true
+    table.iter().skip(from).all(|v| *v == 0)
 }
 
 // How many numbers of the table are code.

@@ -17,9 +17,9 @@ fn put_nested(
     middle: &[u8],
     close: &[u8],
 ) -> usize {
-    let a = cases::put_many(text, at, open, n);
+    let a = lines::put_many(text, at, open, n);
     let b = lines::put(text, a, middle);
-    cases::put_many(text, b, close, n)
+    lines::put_many(text, b, close, n)
 }
 
 // The same after a beginning.

@@ -35,19 +35,9 @@ fn case(rt: &HostRuntime, c: &[u8]) -> io::Result<()> {
     }
 }
 
-fn each(rt: &HostRuntime, all: &[u8]) -> io::Result<()> {
-    let n = cases::count(all, cases::END);
-    let mut i = 0;
-    while i < n {
-        case(rt, rows::nth(all, cases::END, i))?;
-        i += 1;
-    }
-    Ok(())
-}
-
 fn main(rt: HostRuntime) -> io::Result<()> {
     let mut file = [0u8; 8192];
     let n = input::text_of(&mut rt.stdin(), &mut file)?;
     cases::put_meant(&mut file);
-    each(&rt, base::part(&file, 0, n))
+    cases::each(base::part(&file, 0, n), cases::END, |c| case(&rt, c))
 }

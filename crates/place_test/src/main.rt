@@ -14,7 +14,7 @@ fn see(rt: &HostRuntime, label: &[u8], text: &[u8], place: usize) -> io::Result<
         &mut page,
         a,
         b": #:# from #\n",
-        [spot.line as u64, spot.column as u64, spot.start as u64],
+        &[spot.line as u64, spot.column as u64, spot.start as u64],
     );
     let c = marks::put_marked_line(&mut page, b, text, place);
     rt.stdout().write_all(base::part(&page, 0, c))
@@ -61,13 +61,7 @@ fn case(rt: &HostRuntime, c: &[u8]) -> io::Result<()> {
 }
 
 fn each(rt: &HostRuntime, all: &[u8]) -> io::Result<()> {
-    let n = cases::count(all, cases::END);
-    let mut i = 0;
-    while i < n {
-        case(rt, rows::nth(all, cases::END, i))?;
-        i += 1;
-    }
-    Ok(())
+    cases::each(all, cases::END, |c| case(rt, c))
 }
 
 fn tried(rt: &HostRuntime, all: &[u8]) -> io::Result<()> {

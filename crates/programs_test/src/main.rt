@@ -58,26 +58,14 @@ fn case(rt: &HostRuntime, line: &[u8]) -> io::Result<()> {
 }
 
 fn case_or_comment(rt: &HostRuntime, line: &[u8]) -> io::Result<()> {
-    if 0 < line.len() {
-        if line[0] == b'#' {
-            return Ok(());
-        }
+    match line.first() {
+        Some(b'#') => Ok(()),
+        _ => case(rt, line),
     }
-    case(rt, line)
-}
-
-fn each(rt: &HostRuntime, all: &[u8]) -> io::Result<()> {
-    let n = cases::count(all, b'\n');
-    let mut i = 0;
-    while i < n {
-        case_or_comment(rt, rows::nth(all, b'\n', i))?;
-        i += 1;
-    }
-    Ok(())
 }
 
 fn main(rt: HostRuntime) -> io::Result<()> {
     let mut file = [0u8; 8192];
     let n = input::text_of(&mut rt.stdin(), &mut file)?;
-    each(&rt, base::part(&file, 0, n))
+    cases::each(base::part(&file, 0, n), b'\n', |line| case_or_comment(&rt, line))
 }

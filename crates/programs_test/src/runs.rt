@@ -1,7 +1,8 @@
 // A text and its readings through the programs, with rooms and pages that held other bytes.
 use crate::say;
+use base::Refused;
 use limits::Station;
-use reports::Came;
+use machine::Report;
 use std::io;
 use tells::Said;
 
@@ -41,11 +42,12 @@ fn feed(rt: &HostRuntime, text: &[u8], numbers: &[i32]) -> io::Result<()> {
 }
 
 // The room past the output is as it was.
-fn left(rt: &HostRuntime, c: Came, room: &[u8; Station::ROOM]) -> io::Result<()> {
-    match c {
-        Came::Ran(r) => say::left(rt, room, r.length, 7),
-        Came::Refused(_, _) => say::left(rt, room, 0, 7),
-    }
+fn left(
+    rt: &HostRuntime,
+    came: Result<Report, Refused>,
+    room: &[u8; Station::ROOM],
+) -> io::Result<()> {
+    say::left(rt, room, came.map_or(0, |r| r.length), 7)
 }
 
 fn lesson(rt: &HostRuntime, text: &[u8], numbers: &[i32]) -> io::Result<()> {
@@ -63,8 +65,5 @@ pub fn all(rt: &HostRuntime, text: &[u8], numbers: &[i32]) -> io::Result<()> {
 
 // The first so many numbers.
 pub fn first(numbers: &[i32], n: usize) -> &[i32] {
-    if numbers.len() <= n {
-        return numbers;
-    }
-    &numbers[..n]
+    numbers.get(..n).unwrap_or(numbers)
 }

@@ -28,12 +28,10 @@ fn line_start(bytes: &[u8], end: usize) -> usize
     requires { end ≤ length bytes.now }
     ensures { result ≤ length bytes.now }
 {
-    let mut i = end;
-    while 1 < i {
-        if bytes[i - 2] == b'\n' {
-            return i - 1;
+    for i in (1..end).rev() {
+        if bytes[i - 1] == b'\n' {
+            return i;
         }
-        i -= 1;
     }
     0
 }
@@ -49,13 +47,10 @@ fn ends(rt: &HostRuntime, bytes: &[u8]) -> io::Result<()> {
 
 // Says so where the last line has no end.
 fn line_end(rt: &HostRuntime, bytes: &[u8]) -> io::Result<()> {
-    let n = bytes.len();
-    if 0 < n {
-        if bytes[n - 1] != b'\n' {
-            write(rt, b"\n\\ no line end\n")?;
-        }
+    match bytes.last() {
+        None | Some(b'\n') => Ok(()),
+        _ => write(rt, b"\n\\ no line end\n"),
     }
-    Ok(())
 }
 
 // How many bytes there are, where not all are shown.
@@ -71,12 +66,7 @@ fn shown(rt: &HostRuntime, bytes: &[u8]) -> io::Result<()> {
 }
 
 fn is_left(page: &[u8], from: usize, filler: u8) -> bool {
-    for i in from..page.len() {
-        if page[i] != filler {
-            return false;
-        }
-    }
-    true
+    page.iter().skip(from).all(|b| *b == filler)
 }
 
 // Says so where a byte past what was said is not as it was.

@@ -2,7 +2,7 @@
 
 // A number, a colon and a piece: the piece so many times.
 fn put_again(text: &mut [u8], at: usize, bytes: &[u8]) -> usize {
-    cases::put_many(
+    lines::put_many(
         text,
         at,
         rows::nth(bytes, b':', 1),
@@ -29,25 +29,21 @@ fn meant(b: u8) -> u8 {
 }
 
 fn put_meant(text: &mut [u8]) {
-    let mut i = 0;
-    while i < text.len() {
-        text[i] = meant(text[i]);
-        i += 1;
+    for b in text.iter_mut() {
+        *b = meant(*b);
     }
 }
 
 fn put_line(text: &mut [u8], line: &[u8]) -> usize {
     let n = cases::count(line, b'^') / 2;
     let mut e = lines::put(text, 0, rows::nth(line, b'^', 0));
-    let mut i = 0;
-    while i < n {
+    for i in 0..n {
         e = put_both(
             text,
             e,
             rows::nth(line, b'^', i * 2 + 1),
             rows::nth(line, b'^', i * 2 + 2),
         );
-        i += 1;
     }
     e
 }

@@ -9,7 +9,7 @@ use tells::Said;
 
 fn said(rt: &HostRuntime, s: Said, page: &[u8; pupil::SHOWN]) -> io::Result<()> {
     rt.stdout().write_all(base::part(page, 0, s.out))?;
-    let status = s.status;
+    let status = s.status as u8;
     println!(rt; "status {status}")
 }
 
@@ -41,10 +41,8 @@ fn one_or_plus(i: usize) -> u8 {
 
 // Ones, and a plus between any two.
 fn put_sum(text: &mut [u8]) {
-    let mut i = 0;
-    while i < text.len() {
-        text[i] = one_or_plus(i);
-        i += 1;
+    for (i, b) in text.iter_mut().enumerate() {
+        *b = one_or_plus(i);
     }
 }
 
@@ -67,13 +65,7 @@ fn case(rt: &HostRuntime, c: &[u8]) -> io::Result<()> {
 }
 
 fn each(rt: &HostRuntime, all: &[u8]) -> io::Result<()> {
-    let n = cases::count(all, cases::END);
-    let mut i = 0;
-    while i < n {
-        case(rt, rows::nth(all, cases::END, i))?;
-        i += 1;
-    }
-    Ok(())
+    cases::each(all, cases::END, |c| case(rt, c))
 }
 
 fn tried(rt: &HostRuntime, all: &[u8]) -> io::Result<()> {

@@ -3,7 +3,7 @@
 // A beginning, a piece, how many times, and the rest, between bars; a text without bars is its own beginning.
 fn put_pieces(text: &mut [u8], pieces: &[u8]) -> usize {
     let a = lines::put(text, 0, rows::nth(pieces, b'|', 0));
-    let b = cases::put_many(
+    let b = lines::put_many(
         text,
         a,
         rows::nth(pieces, b'|', 1),

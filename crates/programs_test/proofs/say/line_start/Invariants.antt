@@ -1,9 +1,0 @@
--- The loop stays in the bytes.
-use Rattle.std.proofs.Common.{length, ◌≤◌}
-use Rattle.programs_test.proofs.say.line_start.Given as goal
-
-abbrev pub invariant-loop-i : goal.invariant-loop-i
-invariant-loop-i l = l.i ≤ length l.bytes
-
-abbrev pub decreases-loop-i : goal.decreases-loop-i
-decreases-loop-i l = l.i

@@ -1,9 +1,0 @@
--- The text keeps its length.
-use Rattle.std.proofs.Common.{length, ◌-◌, ◌≡◌}
-use Rattle.show_test.proofs.put_sum.Given as goal
-
-abbrev pub invariant-loop-i : goal.invariant-loop-i
-invariant-loop-i l = length l.text ≡ length l.initial.text
-
-abbrev pub decreases-loop-i : goal.decreases-loop-i
-decreases-loop-i l = length l.initial.text - l.i
