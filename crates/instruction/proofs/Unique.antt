@@ -1,6 +1,5 @@
 -- What the code holds tells instructions apart, so that the contract of `decode` leaves one answer. Assumes nothing.
 use mathlib.Core.Path.{◌≡◌, refl, ap}
-use mathlib.Core.Bool.{true, false}
 use Rattle.std.specs.Prelude.{Option, Some, None}
 use Rattle.endings.proofs.Unique.{ending_back, ending_again}
 use Rattle.numbers.specs.Numbers.{TwoSidedOperation, plus, minus, times, divide, equals, smaller, greater}
@@ -11,7 +10,7 @@ use Rattle.base.proofs.Unique.{same_by}
 use Rattle.instruction.specs.Instructions.{Instruction, halt, push_int, load_stack, store_stack, jump, jump_if_false, two_sided, negate, not, read, print_int, print_str, print_str_ln}
 use Rattle.instruction.specs.inner.Coded.{as_done, as_instruction}
 use Rattle.instruction.specs.declared.decode.Op.{Op}
-use Rattle.instruction.specs.declared.decode.Op.TheVariants.{Halt, PushInt, LoadStack, StoreStack, Jump, JumpIfFalse, TwoSided, Negate, Not, Read, PrintInt, PrintStr}
+use Rattle.instruction.specs.declared.decode.Op.TheVariants.{Halt, PushInt, LoadStack, StoreStack, Jump, JumpIfFalse, TwoSided, Negate, Not, Read, PrintInt, PrintStr, PrintStrLn}
 
 abbrev operator_back : TwoSidedOperation → Operator
 operator_back plus = Plus
@@ -43,8 +42,8 @@ op_back negate = Negate
 op_back not = Not
 op_back read = Read
 op_back print_int = PrintInt
-op_back (print_str q) = PrintStr q false
-op_back (print_str_ln q) = PrintStr q true
+op_back (print_str q) = PrintStr q
+op_back (print_str_ln q) = PrintStrLn q
 
 op_again : (o : Op) → op_back (as_done o) ≡ o
 op_again (Halt e) = ap Halt (ending_again e)
@@ -58,8 +57,8 @@ op_again Negate = refl
 op_again Not = refl
 op_again Read = refl
 op_again PrintInt = refl
-op_again (PrintStr q false) = refl
-op_again (PrintStr q true) = refl
+op_again (PrintStr q) = refl
+op_again (PrintStrLn q) = refl
 
 pub one_instruction : (o p : Option Op) → as_instruction o ≡ as_instruction p → o ≡ p
 one_instruction None None h = refl

@@ -7,7 +7,7 @@ use super::operations;
 use endings::Ending;
 use numbers::arith::Operator;
 
-// An instruction as it is done: one for the operators and relations, and one for the strings, with or without a line feed.
+// An instruction as it is done: one for the operators and relations.
 #[derive(Clone, Copy, PartialEq, Eq, Debug)]
 pub enum Op {
     Halt(Ending),
@@ -21,7 +21,8 @@ pub enum Op {
     Not,
     Read,
     PrintInt,
-    PrintStr(usize, bool),
+    PrintStr(usize),
+    PrintStrLn(usize),
 }
 
 // An unused operand is 0.
@@ -74,8 +75,8 @@ pub fn decode(operation: i32, a: i32) -> Option<Op>
         operations::NOT => alone(Op::Not, a),
         operations::READ => alone(Op::Read, a),
         operations::PRINT_INT => alone(Op::PrintInt, a),
-        operations::PRINT_STR => Some(Op::PrintStr(natural(a)?, false)),
-        operations::PRINT_STR_LN => Some(Op::PrintStr(natural(a)?, true)),
+        operations::PRINT_STR => Some(Op::PrintStr(natural(a)?)),
+        operations::PRINT_STR_LN => Some(Op::PrintStrLn(natural(a)?)),
         _ => None,
     }
 }

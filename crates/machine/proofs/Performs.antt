@@ -4,12 +4,12 @@ use mathlib.Core.List.{List}
 use Prim.Native.Nat.{ℕ}
 use lib.IntN.{ℤ}
 use lib.ListN.{length}
-use Rattle.std.specs.Prelude.{Some}
+use Rattle.std.specs.Prelude.{true, false, Some}
 use Rattle.endings.specs.Endings.{number_of}
 use Rattle.moves.specs.inner.Moves.{Led}
 use Rattle.instruction.specs.inner.Coded.{as_instruction}
 use Rattle.instruction.specs.declared.decode.Op.{Op}
-use Rattle.instruction.specs.declared.decode.Op.TheVariants.{Halt, PushInt, LoadStack, StoreStack, Jump, JumpIfFalse, TwoSided, Negate, Not, Read, PrintInt, PrintStr}
+use Rattle.instruction.specs.declared.decode.Op.TheVariants.{Halt, PushInt, LoadStack, StoreStack, Jump, JumpIfFalse, TwoSided, Negate, Not, Read, PrintInt, PrintStr, PrintStrLn}
 use Rattle.moves.specs.declared.State.{State}
 use Rattle.perform.specs.inner.Prints.{print_move, print_room, Performed}
 use Rattle.perform.specs.inner.Asks.{asked}
@@ -33,7 +33,8 @@ module _ {lent : Lent} {before : List ℕ} {s : State} {cells : List ℤ} {room 
   each Not = nots g
   each Read = reads g
   each PrintInt = prints_int g
-  each (PrintStr q line) = prints_str g q line
+  each (PrintStr q) = prints_str g q false
+  each (PrintStrLn q) = prints_str g q true
 
   -- it is lent as many cells as the stack has
   pub performs : (o : Op) {n : ℕ} → n ≡ length cells → {r : Led} {room' : List ℕ} →

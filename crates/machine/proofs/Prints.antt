@@ -9,21 +9,18 @@ use lib.IntN.{ℤ, pos}
 use lib.ListN.{length, get_or, take, drop, length-append, length-drop}
 use lib.Seq.{take_at, drop_at, length-take-le, drop-drop}
 use borrow.Author.Tests.{leb-true, leb-false, ltb-true, ltb-false}
-use Rattle.std.specs.Prelude.{Some}
 use Rattle.rooms.specs.inner.Rooms.{said, with_bytes}
 use Rattle.endings.specs.Endings.{print_does_not_fit, bad_code}
 use Rattle.numbers.specs.Numbers.{decimal}
 use Rattle.instruction.specs.Instructions.{print_int, effect}
-use Rattle.instruction.specs.inner.Coded.{as_instruction}
-use Rattle.instruction.specs.declared.decode.Op.TheVariants.{PrintStr}
 use Rattle.moves.specs.inner.Moves.{leads, stops, moves_to}
 use Rattle.moves.specs.declared.State.{State}
 use Rattle.moves.specs.declared.Move.TheVariants.{Go}
 use Rattle.perform.specs.inner.Prints.{Asked, silent, print, fits, print_move, print_room, asked_str, asked_int}
-use Rattle.rules.specs.Machine.{Lent, string, stop, printed, written, names_well, prints, does, tried, decoded}
+use Rattle.rules.specs.Machine.{Lent, string, stop, printed, written, names_well, prints, does, tried}
 use Rattle.machine.specs.inner.Coded.{machine_of, Rule, Good, Did}
 use Rattle.machine.proofs.Moves.{held, count, top}
-use Rattle.machine.proofs.Steps.{placed, stopped, few, works, says, also}
+use Rattle.machine.proofs.Steps.{print_at, placed, stopped, few, works, says, also}
 use Rattle.rules.proofs.Strings.{quote, not_closed, is_closed}
 
 module _ (room bs : List ℕ) (at : ℕ) (fit : at + length bs ≤ length room) where
@@ -92,13 +89,13 @@ module _ {lent : Lent} {before : List ℕ} {s : State} {cells : List ℤ} {room 
       let h = ltb-false s.depth 1 b in
       also (prints_so (placed g s.index d g.whole (omega (arith, g.deep))) bs) (works g print_int d h refl refl (omega arith) refl (top g h))))
 
-  pub prints_str : (q : ℕ) (line : Bool) → So (decoded lent (as_instruction (Some (PrintStr q line)))) (asked_str s lent.text q line)
+  pub prints_str : (q : ℕ) (line : Bool) → So (tried lent (print_at q line)) (asked_str s lent.text q line)
   unfolding asked_str string
   prints_str q line =
       let n = length lent.text in
       let e = quote lent.text q in
       let bs = said line (string lent.text q) in
       let rule = says lent q line (machine_of s cells room) in
-      tested (decoded lent (as_instruction (Some (PrintStr q line)))) (print s bs) (leb n e)
+      tested (tried lent (print_at q line)) (print s bs) (leb n e)
       (λ b. rw (not_closed lent.text q (leb-true n e b)) at rule)
       (λ b. also (prints_so g bs) (rw (is_closed lent.text q (leb-false n e b)) at rule))

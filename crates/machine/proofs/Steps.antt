@@ -10,14 +10,13 @@ use native.Mathlib.Omega.{arith}
 use lib.IntN.{ℤ, pos}
 use lib.ListN.{length, get_or, set, length-set, get_elem?}
 use borrow.Author.Tests.{lt-ltb, le-ltb}
-use Rattle.std.specs.Prelude.{Option, Some}
+use Rattle.std.specs.Prelude.{Option}
 use Rattle.endings.specs.Endings.{stack_full, bad_code}
 use Rattle.rooms.specs.inner.Rooms.{said}
 use Rattle.instruction.specs.inner.Coded.{as_instruction}
 use Rattle.instruction.specs.declared.decode.Op.{Op}
-use Rattle.instruction.specs.declared.decode.Op.TheVariants.{PrintStr}
 use Rattle.numbers.specs.Numbers.{Result, value, ends}
-use Rattle.instruction.specs.Instructions.{Instruction, halt, push_int, load_stack, decode, takes, gives, effect}
+use Rattle.instruction.specs.Instructions.{Instruction, halt, push_int, load_stack, print_str, print_str_ln, decode, takes, gives, effect}
 use Rattle.rules.specs.Machine.{Lent, Machine, string, closed, go, stop, pushed, jumped, resulting, names_well, prints, does, pairs, tried, decoded, fetched, step}
 use Rattle.moves.specs.inner.Moves.{Led, leads, stops, moves_to, pushes, puts}
 use Rattle.moves.specs.declared.State.{State}
@@ -99,9 +98,14 @@ module _ {lent : Lent} {before : List ℕ} {s : State} {cells : List ℤ} {room 
   unfolding tried effect names_well does
   loads k h = rw (length_live s.depth cells, sub-zero s.depth, lt-ltb k s.depth h, peek_live s.depth k cells h)
 
+-- the instruction that prints a string, with a line feed or without
+abbrev pub print_at : ℕ → Bool → Instruction
+print_at q true = print_str_ln q
+print_at q false = print_str q
+
 -- a string that is closed is printed
-pub says : (lent : Lent) (q : ℕ) (line : Bool) (m : Machine) → cond (closed lent.text q) (prints lent (said line (string lent.text q)) m) (stop bad_code) ≡ decoded lent (as_instruction (Some (PrintStr q line))) m
-unfolding said decoded tried effect names_well does
+pub says : (lent : Lent) (q : ℕ) (line : Bool) (m : Machine) → cond (closed lent.text q) (prints lent (said line (string lent.text q)) m) (stop bad_code) ≡ tried lent (print_at q line) m
+unfolding said tried effect names_well does
 says lent q true m = rw (le-ltb (length m.stack) 0 (omega arith), le-ltb (lent.cells - length m.stack) 0 (omega arith))
 says lent q false m = rw (le-ltb (length m.stack) 0 (omega arith), le-ltb (lent.cells - length m.stack) 0 (omega arith))
 

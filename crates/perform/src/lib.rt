@@ -55,6 +55,7 @@ pub fn perform(s: State, o: Op, lent: Lent, live: &[i32], out: &mut [u8]) -> Res
         Op::Not => moves::not(s, live),
         Op::Read => moves::read(s, lent.cells, lent.readings),
         Op::PrintInt => print::print_int(s, live, out),
-        Op::PrintStr(q, line) => print::print_str(s, lent.text, q, line, out),
+        Op::PrintStr(q) => print::print_str(s, lent.text, q, false, out),
+        Op::PrintStrLn(q) => print::print_str(s, lent.text, q, true, out),
     }
 }

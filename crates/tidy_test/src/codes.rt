@@ -7,7 +7,7 @@ use tidy::Uncopied;
 
 // The bytes that a pair prints, if it prints a string: from its place up to the next quote.
 fn string_of(text: &[u8], operation: i32, operand: i32) -> Option<&[u8]> {
-    let Some(Op::PrintStr(place, _)) = decode(operation, operand) else {
+    let Some(Op::PrintStr(place) | Op::PrintStrLn(place)) = decode(operation, operand) else {
         return None;
     };
     Some(base::part(text, place, base::run_end(text, place, base::is_no_quote)))

@@ -1,9 +1,9 @@
 -- What was decoded, as what it asks for at a state that is past it.
-use Rattle.std.specs.Prelude.{List, ℕ, ℤ}
+use Rattle.std.specs.Prelude.{List, true, false, ℕ, ℤ}
 use Rattle.endings.specs.Endings.{number_of}
 use Rattle.numbers.specs.inner.Coded.{as_two_sided}
 use Rattle.instruction.specs.declared.decode.Op.{Op}
-use Rattle.instruction.specs.declared.decode.Op.TheVariants.{Halt, PushInt, LoadStack, StoreStack, Jump, JumpIfFalse, TwoSided, Negate, Not, Read, PrintInt, PrintStr}
+use Rattle.instruction.specs.declared.decode.Op.TheVariants.{Halt, PushInt, LoadStack, StoreStack, Jump, JumpIfFalse, TwoSided, Negate, Not, Read, PrintInt, PrintStr, PrintStrLn}
 use Rattle.moves.specs.inner.Moves.{stops, push_int_move, load_stack_move, store_stack_move, jump_move, jump_if_false_move, two_sided_move, negate_move, not_move, read_move}
 use Rattle.moves.specs.declared.State.{State}
 use Rattle.perform.specs.inner.Prints.{Asked, silent, asked_str, asked_int}
@@ -21,4 +21,5 @@ asked s size text readings live cells Negate = silent (negate_move s live)
 asked s size text readings live cells Not = silent (not_move s live)
 asked s size text readings live cells Read = silent (read_move s cells readings)
 asked s size text readings live cells PrintInt = asked_int s live
-asked s size text readings live cells (PrintStr q line) = asked_str s text q line
+asked s size text readings live cells (PrintStr q) = asked_str s text q false
+asked s size text readings live cells (PrintStrLn q) = asked_str s text q true
