@@ -1,10 +1,10 @@
 // The reader of lexemes: the next one of a text, or refusal 2. It knows no limits.
-#![tactic(auto)]
+#![tactic(auto, using(crate::proofs::Laws::laws), unfolding(lexeme::specs::Lexemes::found, lexeme::specs::Lexemes::colon, lexeme::specs::Lexemes::symbols, lexeme::specs::Lexemes::symbol, lexeme::specs::Lexemes::next, lexeme::specs::inner::Coded::kind_of, lexeme::specs::inner::Coded::coded, lexeme::specs::inner::Coded::code_of))]
 
 ghost use Rattle.std.specs.Prelude.{◌≡◌, true, false, ◌+◌, ◌-◌, ◌<◌, min, length, drop};
 ghost use Rattle.base.specs.declared.Refusal.TheVariants.{NoLexeme};
 ghost use Rattle.base.specs.Bytes.{separator, small, letter, digit, letter_or_digit, run, begins, value};
-ghost use Rattle.lexeme.specs.Lexemes.{word, string_at, symbols, symbol, colon, next};
+ghost use Rattle.lexeme.specs.Lexemes.{word, string_at, symbols, symbol, colon, here, next};
 ghost use Rattle.lexeme.specs.inner.Coded.{coded};
 
 use base::{Refusal, Refused};
@@ -20,30 +20,15 @@ fn no_lexeme(place: usize) -> Refused
     }
 }
 
-// What a digit adds to the value of its word.
-fn worth(b: u8) -> u64
-    ensures { result ≡ b - 48 }
-{
-    if b < 48 {
-        return 0;
-    }
-    (b - 48) as u64
-}
-
 // The value of a digit word, or the largest number where it is beyond that.
 fn value_of(word: &[u8]) -> u32
     ensures { result ≡ min (value 0 word.now) 4294967295 }
 {
-    let mut value: u64 = 0;
-    let mut i = 0;
-    while i < word.len() {
-        value = value * 10 + worth(word[i]);
-        if 4294967295 < value {
-            return 4294967295;
-        }
-        i += 1;
-    }
-    value as u32
+    word.iter().fold(0, |value: u32, digit| {
+        value
+            .saturating_mul(10)
+            .saturating_add(digit.saturating_sub(b'0') as u32)
+    })
 }
 
 // A word that begins with a small letter at p: a name, of all letters and digits that follow.
@@ -150,29 +135,17 @@ fn symbol_at(b: u8, p: usize, q: usize) -> Result<Lexeme, Refused>
     }
 }
 
-// The place after the separators that stand at a place, where most often there is none.
-fn skip(text: &[u8], at: usize) -> usize
-    ensures { result ≡ at + length (run separator (drop at text.now)) }
+// What begins at a place, where no separator stands.
+fn here(text: &[u8], p: usize) -> Result<Lexeme, Refused>
+    ensures { result ≡ coded (here p (drop p text.now)) }
 {
-    if !base::is_at(text, at, base::is_separator) {
-        return at;
-    }
-    base::run_end(text, at, base::is_separator)
-}
-
-// The first lexeme at or after a place; where there is none, the end.
-pub fn next(text: &[u8], at: usize) -> Result<Lexeme, Refused>
-    ensures { result ≡ coded (next text.now at) }
-{
-    let p = skip(text, at);
-    if text.len() <= p {
+    let Some(&b) = text.get(p) else {
         return Ok(Lexeme {
             kind: Kind::Fixed(fixed::END),
             place: p,
             end: p,
         });
-    }
-    let b = text[p];
+    };
     if base::is_small(b) {
         return name_at(text, p);
     }
@@ -187,4 +160,11 @@ pub fn next(text: &[u8], at: usize) -> Result<Lexeme, Refused>
         b':' => colon_at(text, p),
         _ => symbol_at(b, p, p + 1),
     }
+}
+
+// The first lexeme at or after a place.
+pub fn next(text: &[u8], at: usize) -> Result<Lexeme, Refused>
+    ensures { result ≡ coded (next text.now at) }
+{
+    here(text, base::run_end(text, at, base::is_separator))
 }

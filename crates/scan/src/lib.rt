@@ -18,6 +18,7 @@ pub fn too_long(text: &[u8]) -> bool
 }
 
 // Whether a lexeme is too large: refusal 3.
+#[tactic(auto, unfolding(lexeme::specs::inner::Coded::large))]
 fn is_too_large(l: Lexeme) -> bool
     requires { l.place ≤ l.end }
     ensures { result ≡ large the_sizes l.kind (l.end - l.place) }
