@@ -133,15 +133,8 @@ fn line(rt: &HostRuntime, s: &[u8]) -> io::Result<()> {
     case(rt, s)
 }
 
-fn each(rt: &HostRuntime, all: &[u8]) -> io::Result<()> {
-    for i in 0..cases::count(all, b'\n') {
-        line(rt, rows::nth(all, b'\n', i))?;
-    }
-    Ok(())
-}
-
 fn main(rt: HostRuntime) -> io::Result<()> {
     let mut input = [0u8; 16384];
     let n = input::text_of(&mut rt.stdin(), &mut input)?;
-    each(&rt, base::part(&input, 0, n))
+    cases::each(base::part(&input, 0, n), b'\n', |s| line(&rt, s))
 }
