@@ -5,7 +5,9 @@ use Prim.Native.Nat.{ℕ}
 use lib.IntN.{ℤ}
 use Rattle.base.specs.Answers.{given, refused}
 use Rattle.base.specs.Answers as A
-use Rattle.tables.specs.declared.Answer.{Answer}
+use Rattle.tables.specs.declared.Counts.{Counts}
+use Rattle.base.specs.declared.Refused.{Refused}
+use Rattle.std.specs.Prelude.{Result}
 use Rattle.compiler.specs.Answers.{answered, Compiles}
 use Rattle.compiler.specs.Compiled.{Accepted, WithAnswer, table_after}
 use Rattle.compiler.proofs.Judging.{with_answer}
@@ -21,5 +23,5 @@ unfolding answered said_of_answer listed
 said_so n (given a) = rw (first_part n a)
 said_so n (refused why p) = refl
 
-pub lists : {Given : A.Answer Accepted → Type 0} {n : ℕ} {r : Answer} {table : List ℤ} {s : Said} {page page' : List ℕ} → WithAnswer Given (Compiles n r table) → Writes (said_of_answer r table) s page page' [] [] → WithAnswer Given (λ a. Writes (listed a) s page page' [] [])
+pub lists : {Given : A.Answer Accepted → Type 0} {n : ℕ} {r : Result Counts Refused} {table : List ℤ} {s : Said} {page page' : List ℕ} → WithAnswer Given (Compiles n r table) → Writes (said_of_answer r table) s page page' [] [] → WithAnswer Given (λ a. Writes (listed a) s page page' [] [])
 lists {n = n} w x = with_answer w (λ a _ t. rw (t.answer, t.numbers, said_so n a) at x)

@@ -2,15 +2,16 @@
 use mathlib.Core.Path.{◌≡◌, refl, sym, ap, ◌∙◌}
 use mathlib.Core.List.{List}
 use Prim.Native.Nat.{ℕ}
+use Rattle.std.specs.Prelude.{Result, Ok}
 use Rattle.limits.specs.Limits.{Limits}
+use Rattle.base.specs.declared.Refused.{Refused}
 use Rattle.base.specs.Answers.{Answer}
 use Rattle.rules.specs.Machine.{Report}
 use Rattle.machine.proofs.Runs.{one_reported}
+use Rattle.machine.specs.declared.Report as Code
 use Rattle.compiler.specs.Compiled.{Accepted, WithAnswer}
 use Rattle.compiler.proofs.Judging.{one_judged, one_compiled}
 use Rattle.compiler.proofs.Unique.{both}
-use Rattle.reports.specs.declared.Came.{Came}
-use Rattle.reports.specs.declared.Came.TheVariants as came
 use Rattle.tells.specs.Tells as T
 use Rattle.tells.specs.Writes.{Writes}
 use Rattle.tells.specs.declared.Said.{Said}
@@ -18,12 +19,12 @@ use Rattle.tells.proofs.Unique.{one_written}
 use Rattle.programs.specs.Programs.{Tabled}
 use Rattle.programs.specs.Comes.{Comes, refused_so, ran, Tells, Copies}
 
-one_came : {room : List ℕ} {a : Answer Report} {c c' : Came} {room' room'' : List ℕ} → Comes room a c room' → Comes room a c' room'' → (c ≡ c') × (room' ≡ room'')
+one_came : {room : List ℕ} {a : Answer Report} {c c' : Result Code.Report Refused} {room' room'' : List ℕ} → Comes room a c room' → Comes room a c' room'' → (c ≡ c') × (room' ≡ room'')
 one_came (refused_so why p) (refused_so _ _) = (refl, refl)
-one_came (ran w r x) (ran _ s y) = let e = one_reported x y in (ap came.Ran e.0, e.1)
+one_came (ran w r x) (ran _ s y) = let e = one_reported x y in (ap Ok e.0, e.1)
 
 module _ (limits : Limits) (text : List ℕ) where
-  pub lesson_unique : (room : List ℕ) (come : Answer Accepted → Answer Report) {c c' : Came} {room' room'' : List ℕ} → WithAnswer (Tabled limits text) (λ a. Comes room (come a) c room') → WithAnswer (Tabled limits text) (λ a. Comes room (come a) c' room'') → (c ≡ c') × (room' ≡ room'')
+  pub lesson_unique : (room : List ℕ) (come : Answer Accepted → Answer Report) {c c' : Result Code.Report Refused} {room' room'' : List ℕ} → WithAnswer (Tabled limits text) (λ a. Comes room (come a) c room') → WithAnswer (Tabled limits text) (λ a. Comes room (come a) c' room'') → (c ≡ c') × (room' ≡ room'')
   lesson_unique room come p q = let b = both (λ a c. one_compiled limits text _) p q in one_came b.1 b.2
 
   pub listing_unique : (say : Answer Accepted → T.Said) {r r' : Said} (out : List ℕ) {out' out'' : List ℕ} (err : List ℕ) {err' err'' : List ℕ} → WithAnswer (Tabled limits text) (λ a. Writes (say a) r out out' err err') → WithAnswer (Tabled limits text) (λ a. Writes (say a) r' out out'' err err'') → (r ≡ r') × (out' ≡ out'') × (err' ≡ err'')

@@ -1,23 +1,22 @@
 -- What the code promises of the room that it is lent, and of what it says of a run and of a copy.
-use Rattle.std.specs.Prelude.{◌≡◌, List, [], ℕ}
+use Rattle.std.specs.Prelude.{◌≡◌, List, [], ℕ, Result, Ok, Err}
 use Rattle.limits.specs.Limits.{Limits}
 use Rattle.base.specs.declared.Refusal.{Refusal}
+use Rattle.base.specs.declared.Refused.{Refused}
 use Rattle.base.specs.Answers.{Answer, given, refused}
 use Rattle.rules.specs.Machine.{Report, room_after}
 use Rattle.machine.specs.Promise.{Reported}
 use Rattle.machine.specs.declared.Report as Code
 use Rattle.compiler.specs.Compiled.{Judged, WithAnswer}
-use Rattle.reports.specs.declared.Came.{Came}
-use Rattle.reports.specs.declared.Came.TheVariants.{Ran, Refused}
 use Rattle.tells.specs.Tells as T
 use Rattle.tells.specs.Writes.{Writes}
 use Rattle.tells.specs.declared.Said.{Said}
 use Rattle.programs.specs.Programs.{copied}
 
 -- what came of a text, and the room after its run
-pub data Comes (room : List ℕ) : Answer Report → Came → List ℕ → Type 0 where
-  refused_so : (why : Refusal) (p : ℕ) → Comes room (refused why p) (Refused why p) room
-  ran : (w : Report) (r : Code.Report) {room' : List ℕ} → Reported w room r room' → Comes room (given w) (Ran r) room'
+pub data Comes (room : List ℕ) : Answer Report → Result Code.Report Refused → List ℕ → Type 0 where
+  refused_so : (why : Refusal) (p : ℕ) → Comes room (refused why p) (Err (record { why = why; place = p })) room
+  ran : (w : Report) (r : Code.Report) {room' : List ℕ} → Reported w room r room' → Comes room (given w) (Ok r) room'
 
 -- a refused text leaves the room as it was
 unfoldable pub room_left : Answer Report → List ℕ → List ℕ

@@ -10,16 +10,21 @@ ghost use Rattle.programs.specs.Programs.{Tabled, came, listed};
 ghost use Rattle.programs.specs.Comes.{Comes, Tells, Copies};
 ghost use Rattle.programs.specs.inner.Copies.{said_of_copy};
 
+use base::Refused;
 use limits::{Limits, Station};
-use reports::Came;
-use tells::{LINE, LISTING, PAGE, Said};
-use tidy::Tidied;
+use machine::Report;
+use tells::{LINE, LISTING, PAGE, Said, Status};
+use tidy::Uncopied;
 
 // Room for the longest copy and its line end, or for a refusal's line.
 pub const COPY: usize = Limits::TEXT + LINE;
 
 // The text, run on readings. A table and a stack for the most instructions are enough for every accepted text.
-pub fn lesson(text: &[u8], readings: &[i32], room: &mut [u8; Station::ROOM]) -> Came
+pub fn lesson(
+    text: &[u8],
+    readings: &[i32],
+    room: &mut [u8; Station::ROOM],
+) -> Result<Report, Refused>
     ensures { WithAnswer (Tabled the_limits text.entry.now) (λ a. Comes room.old (came Station.BUDGET (length room.old) readings.now a) result room.new) }
 {
     let mut table = [0i32; Limits::INSTRUCTIONS * 2];
@@ -39,33 +44,33 @@ pub fn listing(text: &[u8], page: &mut [u8; LISTING]) -> Said
     ensures { WithAnswer (Tabled the_limits text.entry.now) (λ a. Writes (listed a) result page.old page.new [] []) }
 {
     let mut table = [0i32; Limits::INSTRUCTIONS * 2];
-    let a = compiler::compile(text, &mut table);
-    tells::list(a, &table, page)
+    let answer = compiler::compile(text, &mut table);
+    tells::list(answer, &table, page)
 }
 
 // The copy that stands in the room, and a line end; or the line of the refusal.
-fn tell_copy(t: Tidied, room: &[u8; Limits::TEXT], page: &mut [u8; COPY]) -> Said
-    ensures { Writes (said_of_copy t room.now) result page.old page.new [] [] }
+fn tell_copy(
+    copied: Result<usize, Uncopied>,
+    room: &[u8; Limits::TEXT],
+    page: &mut [u8; COPY],
+) -> Said
+    ensures { Writes (said_of_copy copied room.now) result page.old page.new [] [] }
 {
-    match t {
-        Tidied::Refused(why, place) => Said {
-            out: lines::refused(page, 0, why, place),
-            err: 0,
-            status: tells::NOT_GOOD,
-        },
-        Tidied::NoRoom => Said {
-            out: lines::refusal(page, 0, tidy::NO_ROOM, 0),
-            err: 0,
-            status: tells::NOT_GOOD,
-        },
-        Tidied::Copied(n) => {
+    match copied {
+        Ok(n) => {
             let at = lines::put(page, 0, tells::output(n, room));
             Said {
                 out: lines::put(page, at, b"\n"),
                 err: 0,
-                status: tells::GOOD,
+                status: Status::Good,
             }
         }
+        Err(Uncopied::Refused(r)) => tells::tell_refusal(page, r),
+        Err(Uncopied::NoRoom) => Said {
+            out: lines::refusal(page, 0, tidy::NO_ROOM, 0),
+            err: 0,
+            status: Status::NotGood,
+        },
     }
 }
 
@@ -74,8 +79,8 @@ pub fn copy(text: &[u8], page: &mut [u8; COPY]) -> Said
     ensures { Copies the_limits text.entry.now result page.old page.new }
 {
     let mut room = [0u8; Limits::TEXT];
-    let t = tidy::tidy(text, &mut room);
-    tell_copy(t, &room, page)
+    let copied = tidy::tidy(text, &mut room);
+    tell_copy(copied, &room, page)
 }
 
 // The second program of the paper.
@@ -87,8 +92,8 @@ pub fn station(
 ) -> Said
     ensures { WithAnswer (Tabled the_limits text.entry.now) (λ a. Tells said_of_run (came Station.BUDGET (length room.old) readings.now a) room.old result room.new page.old page.new [] []) }
 {
-    let c = lesson(text, readings, room);
-    tells::tell(c, room, page)
+    let came = lesson(text, readings, room);
+    tells::tell(came, room, page)
 }
 
 // The program for the feed.
@@ -101,6 +106,6 @@ pub fn feed(
 ) -> Said
     ensures { WithAnswer (Tabled the_limits text.entry.now) (λ a. Tells sent (came Station.BUDGET (length room.old) readings.now a) room.old result room.new page.old page.new note.old note.new) }
 {
-    let c = lesson(text, readings, room);
-    tells::send(c, room, page, note)
+    let came = lesson(text, readings, room);
+    tells::send(came, room, page, note)
 }

@@ -4,4 +4,4 @@ use Rattle.programs.proofs.Copies.{copies}
 use Rattle.programs.proofs.copy.Goals as goal
 
 pub returns : goal.returns
-returns c = copies _ _ refl c.tidy-t.ensures c.tell_copy.ensures
+returns c = copies _ _ refl c.tidy-copied.ensures c.tell_copy.ensures

@@ -5,4 +5,4 @@ use Rattle.programs.proofs.Tellings.{tells}
 use Rattle.programs.proofs.feed.Goals as goal
 
 pub returns : goal.returns
-returns c = with_answer c.lesson-c.ensures (λ a g x. tells sent x c.send.ensures)
+returns c = with_answer c.lesson-came.ensures (λ a g x. tells sent x c.send.ensures)

@@ -3,4 +3,4 @@ use Rattle.programs.proofs.Listings.{lists}
 use Rattle.programs.proofs.listing.Goals as goal
 
 pub returns : goal.returns
-returns c = lists c.compile-a.ensures c.list.ensures
+returns c = lists c.compile-answer.ensures c.list.ensures

@@ -5,4 +5,4 @@ use Rattle.programs.proofs.Tellings.{tells}
 use Rattle.programs.proofs.station.Goals as goal
 
 pub returns : goal.returns
-returns c = with_answer c.lesson-c.ensures (λ a g x. tells said_of_run x c.tell.ensures)
+returns c = with_answer c.lesson-came.ensures (λ a g x. tells said_of_run x c.tell.ensures)
