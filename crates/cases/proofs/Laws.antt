@@ -1,5 +1,5 @@
 -- Laws of counting, of cases in their order, of what bytes stand for and of numbers. Assumes nothing.
-use mathlib.Core.Path.{◌≡◌, refl, ap, ◌∙◌}
+use mathlib.Core.Path.{◌≡◌, refl, sym, ap, ◌∙◌}
 use mathlib.Core.Bool.{Bool, true, false, cond}
 use mathlib.Core.List.{List, [], ◌∷◌, ◌++◌, map, append_assoc, append-nil}
 use Prim.Native.Nat.{ℕ, suc, ◌+◌, ◌-◌, ◌*◌, ◌≤◌, ◌<◌}
@@ -32,9 +32,9 @@ pub in_order_length : (mark : ℕ) (s : List ℕ) → length (in_order mark s) �
 unfolding in_order
 in_order_length mark s = length-take-le _ _ (omega (arith, length-slice_split (λ b. eqb b mark) s, length-filter (λ b. eqb b mark) s, marks_filtered mark s))
 
-pub in_order_at : (mark : ℕ) (s : List ℕ) (i : ℕ) → i < marks mark s → get_or (in_order mark s) i [] ≡ nth mark i s
+pub in_order_at : (mark : ℕ) (s c : List ℕ) (i : ℕ) → i < marks mark s → c ≡ nth mark i s → c ≡ get_or (in_order mark s) i []
 unfolding in_order
-in_order_at mark s i h = get_or-take (marks mark s) (slice_split (λ b. eqb b mark) s) i [] h ∙ part_is_row mark s i
+in_order_at mark s c i h e = e ∙ sym (get_or-take (marks mark s) (slice_split (λ b. eqb b mark) s) i [] h ∙ part_is_row mark s i)
 
 -- ---- what the bytes of a file stand for
 

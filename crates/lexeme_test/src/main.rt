@@ -72,14 +72,6 @@ fn case(rt: &HostRuntime, c: &[u8]) -> io::Result<()> {
     show(rt, rows::nth(c, b'|', 0), rows::nth(c, b'|', 1))
 }
 
-fn each(rt: &HostRuntime, all: &[u8]) -> io::Result<()> {
-    let n = cases::count(all, cases::END);
-    for i in 0..n {
-        case(rt, rows::nth(all, cases::END, i))?;
-    }
-    Ok(())
-}
-
 fn say_long(rt: &HostRuntime, label: &[u8], text: &[u8]) -> io::Result<()> {
     say(rt, label)?;
     if scan::too_long(text) {
@@ -100,6 +92,6 @@ fn main(rt: HostRuntime) -> io::Result<()> {
     let mut file = [0u8; 8192];
     let n = input::text_of(&mut rt.stdin(), &mut file)?;
     cases::put_meant(&mut file);
-    each(&rt, base::part(&file, 0, n))?;
+    cases::each(base::part(&file, 0, n), cases::END, |c| case(&rt, c))?;
     lengths(&rt)
 }

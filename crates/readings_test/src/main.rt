@@ -91,18 +91,12 @@ fn case(rt: &HostRuntime, c: &[u8]) -> io::Result<()> {
     show(rt, c)
 }
 
-fn each(rt: &HostRuntime, all: &[u8]) -> io::Result<()> {
-    let n = cases::count(all, cases::END);
-    for i in 0..n {
-        case(rt, rows::nth(all, cases::END, i))?;
-        println!(rt)?;
-    }
-    Ok(())
-}
-
 fn main(rt: HostRuntime) -> io::Result<()> {
     let mut file = [0u8; 4096];
     let n = input::text_of(&mut rt.stdin(), &mut file)?;
     cases::put_meant(&mut file);
-    each(&rt, base::part(&file, 0, n))
+    cases::each(base::part(&file, 0, n), cases::END, |c| {
+        case(&rt, c)?;
+        println!(rt)
+    })
 }

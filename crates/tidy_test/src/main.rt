@@ -35,15 +35,12 @@ fn case_or_heading(rt: &HostRuntime, line: &[u8]) -> io::Result<()> {
     Ok(())
 }
 
-fn each(rt: &HostRuntime, all: &[u8]) -> io::Result<()> {
-    for i in 0..cases::count(all, b'\n') {
-        case_or_heading(rt, rows::nth(all, b'\n', i))?;
-    }
-    Ok(())
-}
-
 fn main(rt: HostRuntime) -> io::Result<()> {
     let mut file = [0u8; 8192];
     let n = input::text_of(&mut rt.stdin(), &mut file)?;
-    each(&rt, base::part(&file, 0, n))
+    cases::each(
+        base::part(&file, 0, n),
+        b'\n',
+        |line| case_or_heading(&rt, line),
+    )
 }
