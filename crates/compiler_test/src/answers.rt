@@ -1,8 +1,9 @@
 // The answer to a text, and what is left in its table.
+use base::Refused;
 use limits::Limits;
 use std::io;
 use std::io::Write;
-use tables::Answer;
+use tables::Counts;
 use tells::LISTING;
 
 pub fn say(rt: &HostRuntime, bytes: &[u8]) -> io::Result<()> {
@@ -14,28 +15,20 @@ pub fn say_line(rt: &HostRuntime, bytes: &[u8]) -> io::Result<()> {
     say(rt, b"\n")
 }
 
-fn is_clean(table: &[i32], from: usize) -> bool {
-    table.iter().skip(from).all(|v| *v == 0)
-}
-
 // How many numbers of the table are code.
-fn numbers(a: Answer) -> usize {
-    match a {
-        Answer::Accepted(c) => {
-            if Limits::INSTRUCTIONS < c.instructions {
-                return 0;
-            }
-            c.instructions * 2
-        }
-        Answer::Refused(_, _) => 0,
-    }
+fn numbers(a: Result<Counts, Refused>) -> usize {
+    a.map_or(0, |c| c.instructions.saturating_mul(2))
 }
 
 // The answer to a text, in the table that is lent; says so where a number past the code is not 0.
-pub fn compiled(rt: &HostRuntime, text: &[u8], table: &mut [i32]) -> io::Result<Answer> {
+pub fn compiled(
+    rt: &HostRuntime,
+    text: &[u8],
+    table: &mut [i32],
+) -> io::Result<Result<Counts, Refused>> {
     let a = compiler::compile(text, table);
-    if !is_clean(table, numbers(a)) {
-        say(rt, b"the table is not clean\n")?;
+    if !table.iter().skip(numbers(a)).all(|n| *n == 0) {
+        println!(rt; "the table is not clean")?;
     }
     Ok(a)
 }
@@ -45,7 +38,7 @@ fn say_first_line(rt: &HostRuntime, page: &[u8; LISTING]) -> io::Result<()> {
 }
 
 // The answer without its instructions.
-pub fn say_answer(rt: &HostRuntime, a: Answer) -> io::Result<()> {
+pub fn say_answer(rt: &HostRuntime, a: Result<Counts, Refused>) -> io::Result<()> {
     let mut page = [0u8; LISTING];
     tells::list(a, &[0i32; Limits::INSTRUCTIONS * 2], &mut page);
     say_first_line(rt, &page)

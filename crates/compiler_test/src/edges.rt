@@ -40,8 +40,8 @@ pub fn nested(
 // The answer with only so many numbers lent.
 pub fn short(rt: &HostRuntime, text: &[u8], numbers: usize) -> io::Result<()> {
     let mut table = [7i32; 11];
-    if numbers <= table.len() {
-        answers::say_answer(rt, answers::compiled(rt, text, &mut table[..numbers])?)?;
-    }
-    Ok(())
+    let Some(lent) = table.get_mut(..numbers) else {
+        return Ok(());
+    };
+    answers::say_answer(rt, answers::compiled(rt, text, lent)?)
 }
