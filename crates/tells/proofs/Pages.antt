@@ -1,15 +1,19 @@
 -- What was added to a page from its beginning, where there is room for all of it, is what is said. Assumes nothing.
-use mathlib.Core.Path.{◌≡◌, refl, ◌∙◌}
+use mathlib.Core.Path.{◌≡◌, refl, ap, ◌∙◌}
 use mathlib.Core.List.{List, []}
 use Prim.Native.Nat.{ℕ, ◌+◌, ◌≤◌}
 use native.Mathlib.Omega.{arith}
 use lib.ListN.{length, take, drop, length-append, length-take}
 use lib.Seq.{sets-eq}
 use Rattle.rules.specs.Machine.{room_after}
+use Rattle.base.specs.declared.Refused.{Refused}
 use Rattle.lines.specs.Added.{Added}
+use Rattle.lines.specs.Lines.{refused_line}
+use Rattle.lines.proofs.Short.{Small, short_refused}
 use Rattle.tells.specs.Tells as T
-use Rattle.tells.specs.Writes.{Writes}
+use Rattle.tells.specs.Writes.{Writes, number}
 use Rattle.tells.specs.declared.Said.{Said}
+use Rattle.tells.specs.declared.Status.TheVariants.{NotGood}
 
 module _ {s page page' : List ℕ} {end : ℕ} (a : Added s page 0 page' end) (room : length s ≤ length page) where
   pub said_bytes : end ≡ length s
@@ -23,6 +27,12 @@ module _ {s page page' : List ℕ} {end : ℕ} (a : Added s page 0 page' end) (r
 pub untouched : (page : List ℕ) → page ≡ room_after [] page
 unfolding room_after
 untouched page = refl
+
+-- the line of a refusal, where the page has room for a line
+pub refusal_written : (r : Refused) {s : Said} {page page' : List ℕ} → 96 ≤ length page → Small r.place → Added (refused_line r.why r.place) page 0 page' s.out → (s.err ≡ 0) × (s.status ≡ NotGood) → Writes (T.refusal r.why r.place) s page page' [] []
+refusal_written r {s} {page} room small a rest =
+    let short : length (refused_line r.why r.place) ≤ length page = omega (arith, short_refused r.why r.place small) in
+    record { written = said_bytes a short; page = said_page a short; noted = rest.0; note = untouched []; status = ap number rest.1 }
 
 -- ---- how long it is
 

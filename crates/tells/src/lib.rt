@@ -3,7 +3,10 @@
 
 ghost use Rattle.std.specs.Prelude.{◌≡◌, ◌*◌, ◌≤◌, [], length, take};
 ghost use Rattle.endings.specs.Endings.{number_of};
-ghost use Rattle.tells.specs.Tells.{refusal, status_of, said_of_answer, said_of_run, sent};
+ghost use Rattle.lines.specs.Added.{Added};
+ghost use Rattle.lines.specs.Lines.{refused_line};
+ghost use Rattle.tells.specs.declared.Status.TheVariants.{NotGood};
+ghost use Rattle.tells.specs.Tells.{status_of, said_of_answer, said_of_run, sent};
 ghost use Rattle.tells.specs.Writes.{Writes, with_output, number};
 
 use base::Refused;
@@ -44,8 +47,8 @@ fn code(instructions: usize, table: &[i32]) -> &[i32]
 
 // The line of a refusal, and nothing else.
 pub fn tell_refusal(page: &mut [u8], r: Refused) -> Said
-    requires { LINE ≤ length page.old }
-    ensures { Writes (refusal r.why r.place) result page.old page.new [] [] }
+    ensures line { Added (refused_line r.why r.place) page.old 0 page.new result.out }
+    ensures rest { (result.err ≡ 0) × (result.status ≡ NotGood) }
 {
     Said {
         out: lines::refused(page, 0, r),

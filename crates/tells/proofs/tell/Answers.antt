@@ -5,12 +5,16 @@ use Rattle.lines.proofs.Adds.{adds_then}
 use Rattle.lines.proofs.Short.{Small, small_ending}
 use Rattle.tells.specs.Tells.{said_of_run}
 use Rattle.tells.specs.Writes.{with_output}
+use Rattle.tells.proofs.Pages.{refusal_written}
 use Rattle.tells.proofs.Told.{told_ran, told_short}
 use Rattle.tells.proofs.tell.Goals as goal
 
 pub returns-in-Err : goal.returns-in-Err
 unfolding said_of_run with_output
-returns-in-Err c = rw c.in-Err.is c.tell_refusal.ensures
+returns-in-Err c =
+    let p : Small c.in-Err.r.place = search rules in
+    let l : 96 ≤ length c.args.page.now = search rules in
+    rw c.in-Err.is (refusal_written c.in-Err.r l p c.tell_refusal.ensures.line c.tell_refusal.ensures.rest)
 
 pub returns-in-Ok : goal.returns-in-Ok
 returns-in-Ok c =
