@@ -6,7 +6,8 @@ use Prim.Native.Nat.{◌+◌, ◌≤◌}
 use native.Mathlib.Omega.{arith}
 use lib.ListN.{length}
 use Rattle.lines.proofs.Adds.{adds_then}
-use Rattle.lines.proofs.Short.{short_refusal}
+use Rattle.lines.proofs.Short.{Small, short_refusal}
+use Rattle.tells.proofs.Pages.{refusal_written}
 use Rattle.tidy.specs.Tidy.{no_room}
 use Rattle.programs.specs.inner.Copies.{said_of_copy}
 use Rattle.programs.proofs.Copies.{told_no_room, told_copied}
@@ -17,7 +18,9 @@ pub returns-in-Err-Refused : goal.returns-in-Err-Refused
 unfolding said_of_copy
 returns-in-Err-Refused c =
     let is : c.args.copied ≡ Err (Refused c.in-Err-Refused.r) = search rules in
-    rw is c.tell_refusal.ensures
+    let p : Small c.in-Err-Refused.r.place = search rules in
+    let l : 96 ≤ length c.args.page.now = search rules in
+    rw is (refusal_written c.in-Err-Refused.r l p c.tell_refusal.ensures.line c.tell_refusal.ensures.rest)
 
 pub returns-in-Err-NoRoom : goal.returns-in-Err-NoRoom
 returns-in-Err-NoRoom c =
