@@ -67,5 +67,9 @@ fn case_or_comment(rt: &HostRuntime, line: &[u8]) -> io::Result<()> {
 fn main(rt: HostRuntime) -> io::Result<()> {
     let mut file = [0u8; 8192];
     let n = input::text_of(&mut rt.stdin(), &mut file)?;
-    cases::each(base::part(&file, 0, n), b'\n', |line| case_or_comment(&rt, line))
+    cases::each(
+        base::part(&file, 0, n),
+        b'\n',
+        |line| case_or_comment(&rt, line),
+    )
 }
