@@ -1,8 +1,11 @@
 -- The way back from the code's numbers and kinds: equal codes mean equal lexemes. Assumes nothing.
 use mathlib.Core.Path.{◌≡◌, refl, sym, ap, ◌∙◌}
 use mathlib.Core.List.{List}
+use mathlib.Core.Bool.{Bool, true, false}
 use Prim.Native.Nat.{ℕ}
 use native.Mathlib.Omega.{arith}
+use lib.Dec.{eqb}
+use borrow.Author.Tests.{eq-eqb, ne_eqb}
 use Rattle.lexeme.specs.Lexemes.{symbols, keywords, fixed, Fixed, becomes, equals_sign, comma, dot, greater_sign, less_sign, plus_sign, minus_sign, star, slash, open_round, close_round, open_square, close_square, open_brace, close_brace, CALL, CLASS, DO, ERROR, FIELDS, IF, INIT, INT, METHOD, NOT, OBJ, PRINTI, PRINTLNS, PRINTS, PROCEDURE, READ, RETURNS, SUBCLASSOF, THEN, USING, WHILE, end}
 use Rattle.lexeme.specs.inner.Coded.{variant_of, number, code_of, fixeds, fixed_in, fixed_of, fixed_number, what_of, told}
 use Rattle.lexeme.specs.declared.Fixed as code_fixed
@@ -115,6 +118,17 @@ number_fixed kind.Name f e = absurd (no_code f (sym e))
 number_fixed kind.Class f e = absurd (no_code f (sym e))
 number_fixed kind.Str f e = absurd (no_code f (sym e))
 number_fixed (kind.Fixed v) f e = ap kind.Fixed (number_injective v (variant_of f) e)
+
+-- the same of each variant
+pub number_variant : (k : Kind) (v : code_fixed.Fixed) → fixed_number k ≡ number v → k ≡ kind.Fixed v
+unfolding code_of
+number_variant k v e = let n : number v ≡ code_of (fixed_of (number v)) = ap number (sym (variant_back v)) in number_fixed k (fixed_of (number v)) (e ∙ n) ∙ ap kind.Fixed (variant_back v)
+
+-- a flag that says whether a kind is this variant
+pub is_variant : (k : Kind) (v : code_fixed.Fixed) (b : Bool) → (b ≡ true → k ≡ kind.Fixed v) → (b ≡ false → k ≡ kind.Fixed v → ⊥) → b ≡ eqb (fixed_number k) (number v)
+unfolding fixed_number
+is_variant k v true y n = sym (eq-eqb (fixed_number k) (number v) (ap fixed_number (y refl)))
+is_variant k v false y n = sym (ne_eqb (fixed_number k) (number v) (λ e. n refl (number_variant k v e)))
 
 -- what the code's lexeme of a fixed one is
 pub told_fixed : (text : List ℕ) (l : Lexeme) (f : Fixed) → l.kind ≡ kind.Fixed (variant_of f) → told text l ≡ fixed f
