@@ -97,7 +97,7 @@ variant_back variant.Using = refl
 variant_back variant.While = refl
 variant_back variant.End = refl
 
-number_injective : (v w : code_fixed.Fixed) → number v ≡ number w → v ≡ w
+pub number_injective : (v w : code_fixed.Fixed) → number v ≡ number w → v ≡ w
 number_injective v w e = sym (variant_back v) ∙ ap (λ (n : ℕ). variant_of (fixed_of n)) e ∙ variant_back w
 
 pub code_of_injective : (f g : Fixed) → code_of f ≡ code_of g → f ≡ g
