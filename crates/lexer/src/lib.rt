@@ -1,5 +1,5 @@
 // The reader of lexemes: the next one of a text, or refusal 2. It knows no limits.
-#![tactic(auto, using(crate::proofs::Laws::laws), unfolding(lexeme::specs::Lexemes::found, lexeme::specs::Lexemes::colon, lexeme::specs::Lexemes::symbols, lexeme::specs::Lexemes::symbol, lexeme::specs::Lexemes::next, lexeme::specs::inner::Coded::kind_of, lexeme::specs::inner::Coded::coded, lexeme::specs::inner::Coded::code_of))]
+#![tactic(auto, using(crate::proofs::Laws::laws), unfolding(lexeme::specs::Lexemes::found, lexeme::specs::Lexemes::colon, lexeme::specs::Lexemes::symbols, lexeme::specs::Lexemes::symbol, lexeme::specs::Lexemes::next, lexeme::specs::inner::Coded::kind_of, lexeme::specs::inner::Coded::coded))]
 
 ghost use Rattle.std.specs.Prelude.{◌≡◌, true, false, ◌+◌, ◌-◌, ◌<◌, min, length, drop};
 ghost use Rattle.base.specs.declared.Refusal.TheVariants.{NoLexeme};
@@ -107,7 +107,6 @@ fn colon_at(text: &[u8], p: usize) -> Result<Lexeme, Refused>
 }
 
 // A byte at p that is one of the fifteen characters, or no lexeme; q is the place after it.
-#[tactic(auto, unfolding(lexeme::specs::Lexemes::symbols, lexeme::specs::Lexemes::symbol, lexeme::specs::Lexemes::found, lexeme::specs::inner::Coded::coded, lexeme::specs::inner::Coded::kind_of))]
 fn symbol_at(b: u8, p: usize, q: usize) -> Result<Lexeme, Refused>
     requires { q ≡ p + 1 }
     ensures { result ≡ coded (symbol symbols p b) }
