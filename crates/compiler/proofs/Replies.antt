@@ -1,25 +1,25 @@
 -- What was read by a reader that was called, as the part of what its caller reads. Assumes nothing.
-use mathlib.Core.Path.{◌≡◌, sym, ap, subst, ◌∙◌}
+use mathlib.Core.Path.{◌≡◌, sym, subst, ◌∙◌}
 use mathlib.Core.List.{List, [], ◌∷◌}
-use mathlib.Core.Bool.{true}
 use Prim.Native.Nat.{ℕ, ◌+◌, ◌-◌, ◌≤◌, ◌<◌, max}
 use native.Mathlib.Omega.{arith}
 use lib.IntN.{ℤ, pos}
 use lib.ListN.{length}
-use Rattle.std.specs.Prelude.{Result, Ok, Err, IsErrAnd}
+use Rattle.std.specs.Prelude.{Some, Result, Ok, Err, IsErrAnd}
 use Rattle.std.proofs.lemmas.Result.{err_from_is_err_and}
 use Rattle.base.specs.declared.Refused.{Refused}
 use Rattle.lexeme.specs.Lexemes.{Name}
-use Rattle.lexeme.specs.inner.Coded.{fixed_number}
+use Rattle.lexeme.specs.inner.Coded.{number}
+use Rattle.lexeme.specs.declared.Fixed.{Fixed}
 use Rattle.lexeme.specs.declared.Lexeme as code
 use Rattle.sentence.specs.Sentences.{Kind, Sen, multiply, add, compare}
 use Rattle.sentence.proofs.Operators.{number_of}
 use Rattle.compiler.specs.declared.walk.Walk.{Walk}
 use Rattle.compiler.specs.declared.walk.Read.{Read}
-use Rattle.compiler.specs.inner.Steps.{moved_to, one_instruction, operation_number, Lost, Follows, Past}
+use Rattle.compiler.specs.inner.Steps.{moved_to, one_instruction, such_in, operation_number, Lost, Follows, Past}
 use Rattle.tables.specs.inner.Tables.{put}
 use Rattle.compiler.specs.inner.Walks.{Way, Passes, Refuses, Lays, Ready, Got, Reads, factor_way, term_so_far, term_way, first_term_way, expression_way, comparison_way}
-use Rattle.compiler.proofs.Looked.{Sort, signs, muls, rels, IsOne, is_one}
+use Rattle.compiler.proofs.Looked.{such_one, Sort, signs, muls, rels, IsOne, is_one}
 use Rattle.compiler.proofs.Reading.{Leads}
 use Rattle.compiler.proofs.Passes.{term_more, term_lost, expression_more, expression_lost, compare_leads, compare_lost}
 use Rattle.compiler.proofs.Lays.{lays_multiply, lays_add, lays_compare, ready_moved, ready_after, counts_fit}
@@ -81,11 +81,11 @@ expression_joins = record { more = λ allow x p o. expression_more allow x p o; 
 pub comparison_joins : Joins rels expression_way expression_way comparison_way compare
 comparison_joins = record { more = λ allow x p o. compare_leads allow x p o; lost = λ allow x p o. compare_lost allow x p o; lays = lays_compare }
 
--- the left side was read, and an operator stands next, with the number f
+-- the left side was read, and the operator f stands next
 module _ {A : Type 0} {k k' k'' : Kind} {sort : Sort A} {way : Way k (Sen Name k)} {way' : Way k' (Sen Name k')} {out : Way k'' (Sen Name k'')} {make : Sen Name k → A → Sen Name k' → Sen Name k''} (j : Joins sort way way' out make)
-    {text names₀ names : List ℕ} {table table₁ : List ℤ} {w left : Walk} {allow : ℕ} {g : ℕ} (so : Got way text names₀ table w allow names table₁ left g) {f : ℕ} (number : f ≡ fixed_number left.next.kind) (test : sort.test f ≡ true) where
+    {text names₀ names : List ℕ} {table table₁ : List ℤ} {w left : Walk} {allow : ℕ} {g : ℕ} (so : Got way text names₀ table w allow names table₁ left g) {f : Fixed} (ahead : such_in sort.test left.next.kind ≡ Some f) where
   pub operator : IsOne sort text left.next
-  operator = is_one sort so.passed.stands (ap sort.test (sym number) ∙ test)
+  operator = is_one sort so.passed.stands (such_one sort.test left.next.kind ahead).1
 
   -- what follows it is no lexeme
   pub right_lost : {e : Refused} → Lost text left.next e → Refuses out.start text w.next allow e.why e.place
@@ -96,10 +96,10 @@ module _ {A : Type 0} {k k' k'' : Kind} {sort : Sort A} {way : Way k (Sen Name k
     right_leads = j.more allow so.what so.passed operator passed.follows
 
     module _ {table₂ : List ℤ} {z : Walk} {h : ℕ} (right : Got way' text names table₁ y allow names table₂ z h) where
-      pub right_joined : Got out text names₀ table w allow names (put table₂ z.code (operation_number f ∷ pos 0 ∷ [])) (one_instruction z) (max g (1 + h))
+      pub right_joined : Got out text names₀ table w allow names (put table₂ z.code (operation_number (number f) ∷ pos 0 ∷ [])) (one_instruction z) (max g (1 + h))
       right_joined =
           led_followed right_leads right
-          (subst (λ (n : ℕ). Lays text names₀ table w (make so.what operator.which right.what) names (put table₂ z.code (operation_number n ∷ pos 0 ∷ [])) (one_instruction z) (max g (1 + h))) (sym (number ∙ operator.number))
+          (subst (λ (n : ℕ). Lays text names₀ table w (make so.what operator.which right.what) names (put table₂ z.code (operation_number n ∷ pos 0 ∷ [])) (one_instruction z) (max g (1 + h))) (sym ((such_one sort.test left.next.kind ahead).0 ∙ operator.number))
           (j.lays operator.which y.next (omega (arith, so.passed.stands.some operator.goes, passed.follows.later)) so.laid (subst (λ (u : Walk). Lays text names table₁ u right.what names table₂ z h) passed.moved right.laid)))
 
       -- less of the text is left

@@ -1,6 +1,6 @@
 // Commands: one walk reads and translates. Only bodies and blocks recurse; the commands of a block are a loop.
 ghost use Rattle.std.specs.Prelude.{◌≡◌, false, suc, ◌<◌};
-ghost use Rattle.lexeme.specs.inner.Coded.{code_of, fixed_number};
+ghost use Rattle.lexeme.specs.inner.Coded.{variant_of, fixed_number};
 ghost use Rattle.compiler.specs.inner.Steps.{moved_to, printing_number, has_body, before_body, HasRoom, ended_walk, ended_table};
 ghost use Rattle.compiler.specs.inner.Walks.{Ready, First, ReadsCommand, ReadsPrint, ReadsString, ReadsDeclare, ReadsRead, ReadsAssign, ReadsBody, ReadsGuarded, ReadsBlock};
 
@@ -8,7 +8,7 @@ use crate::walk::{Read, Walk};
 use crate::{expression, naming};
 use base::{Refusal, Refused};
 use instruction::operations;
-use lexeme::{Kind, Lexeme, fixed};
+use lexeme::{Fixed, Kind, Lexeme};
 
 // ---- after the first lexeme of a command without a body
 
@@ -120,19 +120,19 @@ fn assign(
     ensures { ReadsAssign l text.now names.now table.old w allow result names.now table.new }
 {
     let c = scopes::look_up(text, names, l.place, l.end);
-    let x = naming::noted(w, c, l).expect(text, b':')?;
+    let x = naming::noted(w, c, l).expect(text, Fixed::Becomes)?;
     let r = expression::expression(allow, text, names, table, x)?;
     Ok(r.followed(table, operations::STORE_STACK, naming::operand(c)))
 }
 
 // ---- around the body of an IF or a WHILE
 
-// The number of DO, which stands before a body that is done again, or of THEN.
-#[tactic(auto, unfolding(crate::specs::inner::Steps::before_body, lexeme::specs::inner::Coded::code_of))]
-fn before_body(again: bool) -> u8
-    ensures { result ≡ code_of (before_body again) }
+// DO, which stands before a body that is done again, or of THEN.
+#[tactic(auto, unfolding(crate::specs::inner::Steps::before_body))]
+fn before_body(again: bool) -> Fixed
+    ensures { result ≡ variant_of (before_body again) }
 {
-    if again { fixed::DO } else { fixed::THEN }
+    if again { Fixed::Do } else { Fixed::Then }
 }
 
 // After the body: WHILE jumps back to its condition.
@@ -162,19 +162,17 @@ fn without_body(
     requires kind_value { has_body (fixed_number l.kind) ≡ false }
     ensures { ReadsCommand text.now names.old table.old (moved_to w l) allow result names.new table.new }
 {
-    if let Kind::Name = l.kind {
-        return assign(allow, text, names, table, w, l);
-    }
-    match lexeme::fixed_of(l.kind) {
-        fixed::ERROR => Ok(Read {
+    match l.kind {
+        Kind::Name => assign(allow, text, names, table, w, l),
+        Kind::Fixed(Fixed::Error) => Ok(Read {
             walk: w.emitted(table, operations::HALT, 1),
             need: 0,
         }),
-        fixed::INT => declare(allow, text, names, table, w),
-        fixed::PRINTI => print_int(allow, text, names, table, w),
-        fixed::PRINTLNS => print_string(allow, text, names, table, w, true),
-        fixed::PRINTS => print_string(allow, text, names, table, w, false),
-        fixed::READ => read(allow, text, names, table, w),
+        Kind::Fixed(Fixed::Int) => declare(allow, text, names, table, w),
+        Kind::Fixed(Fixed::Printi) => print_int(allow, text, names, table, w),
+        Kind::Fixed(Fixed::Printlns) => print_string(allow, text, names, table, w, true),
+        Kind::Fixed(Fixed::Prints) => print_string(allow, text, names, table, w, false),
+        Kind::Fixed(Fixed::Read) => read(allow, text, names, table, w),
         _ => Err(Refused {
             why: Refusal::NoProgram,
             place: l.place,
@@ -183,11 +181,14 @@ fn without_body(
 }
 
 // Whether a command that begins so has a body.
-#[tactic(auto, unfolding(crate::specs::inner::Steps::has_body, lexeme::specs::inner::Coded::code_of))]
-fn has_body(f: u8) -> bool
-    ensures { result ≡ has_body f }
+#[tactic(auto, unfolding(crate::specs::inner::Steps::has_body, lexeme::specs::inner::Coded::fixed_number, lexeme::specs::inner::Coded::code_of))]
+fn has_body(kind: Kind) -> bool
+    ensures { result ≡ has_body (fixed_number kind) }
 {
-    matches!(f, fixed::IF | fixed::WHILE | b'{')
+    matches!(
+        kind,
+        Kind::Fixed(Fixed::If | Fixed::While | Fixed::OpenBrace)
+    )
 }
 
 #[cycle(block_body_command_guarded)]
@@ -201,18 +202,17 @@ pub fn command(
     requires { Ready text.now names.old w allow }
     ensures { ReadsCommand text.now names.old table.old w allow result names.new table.new }
 {
-    let f = w.fixed_ahead();
     let x = w.advance(text)?;
-    if !has_body(f) {
+    if !has_body(w.next.kind) {
         return without_body(allow, text, names, table, x, w.next);
     }
     if allow == 0 {
         return Err(w.refused_ahead(Refusal::TooDeep));
     }
-    if f == b'{' {
+    if w.is_ahead(Fixed::OpenBrace) {
         return block(allow - 1, text, names, table, x);
     }
-    guarded(allow - 1, text, names, table, x, f == fixed::WHILE)
+    guarded(allow - 1, text, names, table, x, w.is_ahead(Fixed::While))
 }
 
 // After IF, or after WHILE, whose body is done again; with so many nestings allowed inside.
@@ -273,7 +273,7 @@ fn block(
     let before = scopes::counts(names);
     scopes::open(names);
     let mut so_far = command(allow, text, names, table, w)?;
-    while so_far.walk.fixed_ahead() != b'}' {
+    while !so_far.walk.is_ahead(Fixed::CloseBrace) {
         let r = command(allow, text, names, table, so_far.walk)?;
         so_far = Read {
             walk: r.walk,

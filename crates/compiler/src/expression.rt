@@ -1,5 +1,6 @@
 // Expressions and conditions: one walk reads and translates. Repetition is by loops; only brackets and NOT recurse.
 ghost use Rattle.std.specs.Prelude.{◌≡◌, [], ◌∷◌, pos};
+ghost use Rattle.lexeme.specs.inner.Coded.{number};
 ghost use Rattle.tables.specs.inner.Tables.{put};
 ghost use Rattle.compiler.specs.inner.Steps.{NoOperand, Fits, joined_walk, operation_number};
 ghost use Rattle.compiler.specs.inner.Walks.{Ready, ReadsFactor, ReadsTerm, ReadsFirstTerm, ReadsExpression, ReadsCondition, ReadsComparison};
@@ -8,7 +9,7 @@ use crate::walk::{Read, Walk};
 use crate::{naming, operator};
 use base::{Refusal, Refused};
 use instruction::operations;
-use lexeme::{Kind, fixed};
+use lexeme::{Fixed, Kind};
 
 #[cycle(bracket_expression_factor_first_term_term)]
 fn factor(
@@ -53,7 +54,7 @@ fn bracket(
     requires no_operand { NoOperand w.next.kind }
     ensures { ReadsFactor text.now names.now table.old w allow result names.now table.new }
 {
-    if w.fixed_ahead() != b'(' {
+    if !w.is_ahead(Fixed::OpenRound) {
         return Err(w.refused_ahead(Refusal::NoProgram));
     }
     if allow == 0 {
@@ -62,16 +63,16 @@ fn bracket(
     let x = w.advance(text)?;
     let r = expression(allow - 1, text, names, table, x)?;
     Ok(Read {
-        walk: r.walk.expect(text, b')')?,
+        walk: r.walk.expect(text, Fixed::CloseRound)?,
         need: r.need,
     })
 }
 
 // After both sides of the operator or relation f: its operation, and the need of both.
-fn joined(table: &mut [i32], f: u8, left: usize, right: Read) -> Read
+fn joined(table: &mut [i32], f: Fixed, left: usize, right: Read) -> Read
     requires { Fits right }
     ensures value { result ≡ joined_walk left right }
-    ensures table_after { table.new ≡ put table.old right.walk.code (operation_number f ∷ pos 0 ∷ []) }
+    ensures table_after { table.new ≡ put table.old right.walk.code (operation_number (number f) ∷ pos 0 ∷ []) }
 {
     Read {
         walk: right.walk.emitted(table, operator::operation(f), 0),
@@ -92,15 +93,12 @@ fn term(
     ensures { ReadsTerm text.now names.now table.old w allow result names.now table.new }
 {
     let mut so_far = factor(allow, text, names, table, w)?;
-    loop {
-        let f = so_far.walk.fixed_ahead();
-        if !operator::is_mul(f) {
-            return Ok(so_far);
-        }
+    while let Some(f) = operator::mul_in(so_far.walk.next.kind) {
         let x = so_far.walk.advance(text)?;
         let right = factor(allow, text, names, table, x)?;
         so_far = joined(table, f, so_far.need, right);
     }
+    Ok(so_far)
 }
 
 // One sign or none, and a Term.
@@ -115,13 +113,12 @@ fn first_term(
     requires { Ready text.now names.now w allow }
     ensures { ReadsFirstTerm text.now names.now table.old w allow result names.now table.new }
 {
-    let f = w.fixed_ahead();
-    if !operator::is_sign(f) {
+    let Some(f) = operator::sign_in(w.next.kind) else {
         return term(allow, text, names, table, w);
-    }
+    };
     let x = w.advance(text)?;
     let r = term(allow, text, names, table, x)?;
-    if f == b'-' {
+    if f == Fixed::Minus {
         return Ok(r.followed(table, operations::NEGATE, 0));
     }
     Ok(r)
@@ -139,15 +136,12 @@ pub fn expression(
     ensures { ReadsExpression text.now names.now table.old w allow result names.now table.new }
 {
     let mut so_far = first_term(allow, text, names, table, w)?;
-    loop {
-        let f = so_far.walk.fixed_ahead();
-        if !operator::is_sign(f) {
-            return Ok(so_far);
-        }
+    while let Some(f) = operator::sign_in(so_far.walk.next.kind) {
         let x = so_far.walk.advance(text)?;
         let right = term(allow, text, names, table, x)?;
         so_far = joined(table, f, so_far.need, right);
     }
+    Ok(so_far)
 }
 
 pub fn condition(
@@ -160,7 +154,7 @@ pub fn condition(
     requires { Ready text.now names.now w allow }
     ensures { ReadsCondition text.now names.now table.old w allow result names.now table.new }
 {
-    if w.fixed_ahead() != fixed::NOT {
+    if !w.is_ahead(Fixed::Not) {
         return comparison(allow, text, names, table, w);
     }
     if allow == 0 {
@@ -183,10 +177,9 @@ fn comparison(
     ensures { ReadsComparison text.now names.now table.old w allow result names.now table.new }
 {
     let left = expression(allow, text, names, table, w)?;
-    let f = left.walk.fixed_ahead();
-    if !operator::is_rel(f) {
+    let Some(f) = operator::rel_in(left.walk.next.kind) else {
         return Err(left.walk.refused_ahead(Refusal::NoProgram));
-    }
+    };
     let x = left.walk.advance(text)?;
     let right = expression(allow, text, names, table, x)?;
     Ok(joined(table, f, left.need, right))

@@ -15,7 +15,7 @@ ghost use Rattle.compiler.specs.inner.Measured.{Measured, Written};
 ghost use Rattle.compiler.specs.inner.Walks.{SetOut, ReadsProgram};
 
 use base::{Refusal, Refused};
-use lexeme::fixed;
+use lexeme::Fixed;
 use limits::Limits;
 use tables::Counts;
 use walk::{Read, Walk};
@@ -31,9 +31,9 @@ fn program(
     ensures { ReadsProgram Limits.NESTING text.now names.old table.old code result names.new table.new }
 {
     let w = Walk::start(code).advance(text)?;
-    let x = w.expect(text, fixed::DO)?;
+    let x = w.expect(text, Fixed::Do)?;
     let r = command::command(Limits::NESTING, text, names, table, x)?;
-    if r.walk.fixed_ahead() != fixed::END {
+    if !r.walk.is_ahead(Fixed::End) {
         return Err(r.walk.refused_ahead(Refusal::NoProgram));
     }
     Ok(r)

@@ -1,11 +1,11 @@
 // How far a reading has come, and what it writes.
-ghost use Rattle.std.specs.Prelude.{◌≡◌, [], ◌∷◌, ◌≤◌, length};
-ghost use Rattle.lexeme.specs.inner.Coded.{fixed_number};
+ghost use Rattle.std.specs.Prelude.{◌≡◌, [], ◌∷◌, ◌≤◌, eqb, length};
+ghost use Rattle.lexeme.specs.inner.Coded.{number, fixed_number};
 ghost use Rattle.tables.specs.inner.Tables.{put};
 ghost use Rattle.compiler.specs.inner.Steps.{start_at, one_instruction, faulted_walk, HasRoom, followed_by, Advances, Expects};
 
 use base::{Refusal, Refused};
-use lexeme::{Kind, Lexeme, fixed};
+use lexeme::{Fixed, Kind, Lexeme};
 
 // What is threaded through a reading.
 #[derive(Clone, Copy)]
@@ -26,7 +26,7 @@ impl Walk {
     {
         Walk {
             next: Lexeme {
-                kind: Kind::Fixed(fixed::END),
+                kind: Kind::Fixed(Fixed::End),
                 place: 0,
                 end: 0,
             },
@@ -83,11 +83,11 @@ impl Walk {
 
     // ---- the lexeme ahead
 
-    // The number of the fixed lexeme ahead; 255 is none.
-    pub fn fixed_ahead(self) -> u8
-        ensures { result ≡ fixed_number self.next.kind }
+    // Whether this fixed lexeme is ahead.
+    pub fn is_ahead(self, fixed: Fixed) -> bool
+        ensures { result ≡ eqb (fixed_number self.next.kind) (number fixed) }
     {
-        lexeme::fixed_of(self.next.kind)
+        self.next.kind == Kind::Fixed(fixed)
     }
 
     // Past the lexeme ahead, if a lexeme follows it.
@@ -100,11 +100,11 @@ impl Walk {
     }
 
     // Past one fixed lexeme, and no other.
-    pub fn expect(self, text: &[u8], fixed: u8) -> Result<Walk, Refused>
+    pub fn expect(self, text: &[u8], fixed: Fixed) -> Result<Walk, Refused>
         requires { self.next.end ≤ length text.now }
-        ensures { Expects text.now self fixed result }
+        ensures { Expects text.now self (number fixed) result }
     {
-        if self.fixed_ahead() == fixed {
+        if self.is_ahead(fixed) {
             return self.advance(text);
         }
         Err(self.refused_ahead(Refusal::NoProgram))

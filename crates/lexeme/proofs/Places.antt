@@ -20,7 +20,7 @@ use Rattle.base.proofs.Runs.{run_part, run_yes, run_fits, run_within}
 use Rattle.base.proofs.Words.{same_equal}
 use Rattle.lexeme.specs.Lexemes.{Name, Quoted, Lexeme, lit, name, class, string, fixed, Placed, Next, lexeme, nothing, found, Keyword, keywords, capital_word, Sizes, word, string_at, Symbol, symbols, symbol, colon, here, next, too_large}
 use Rattle.lexeme.specs.Lexemes as lexemes
-use Rattle.lexeme.specs.inner.Coded.{kind_of, coded, code_of, what_of, told, placed, Ends, Stands, large}
+use Rattle.lexeme.specs.inner.Coded.{variant_of, number, kind_of, coded, code_of, what_of, told, placed, Ends, Stands, large}
 use Rattle.lexeme.specs.declared.Kind.{Kind}
 use Rattle.lexeme.specs.declared.Kind.TheVariants as kind
 use Rattle.lexeme.specs.declared.Lexeme as code
@@ -217,15 +217,15 @@ same_test a b c d f g = by_value (ltb a b) refl
 
 module _ (text : List ℕ) (p e : ℕ) where
   known : (w : Lexeme) → kind_of (what_of text p e (kind_of w)) ≡ kind_of w
-  unfolding kind_of what_of
+  unfolding kind_of what_of code_of
   known (lit n) = ap kind.Literal (min-eq_left (min-le_right n 4294967295))
   known (name x) = refl
   known (class x) = refl
   known (string q) = refl
-  known (fixed f) = ap (λ (f : lexemes.Fixed). kind.Fixed (code_of f)) (fixed_back f)
+  known (fixed f) = ap (λ (f : lexemes.Fixed). kind.Fixed (variant_of f)) (fixed_back f)
 
   reads : (most : Sizes) → most.literal ≤ 4294967295 → (w : Lexeme) → Written text p e w → too_large most w ≡ false → what_of text p e (kind_of w) ≡ w
-  unfolding kind_of what_of too_large
+  unfolding kind_of what_of too_large code_of
   reads most small (lit n) h t = ap lit (min-eq_left (omega (arith, ltb-false most.literal n t)))
   reads most small (name x) h t = ap name (sym h)
   reads most small (class x) h t = ap class (sym h)
@@ -243,13 +243,13 @@ module _ (text : List ℕ) (p e : ℕ) where
       same_test (most.string + 2) (e - p) most.string (length q.inside) (λ t. omega (arith, h.0.0)) (λ t. omega (arith, h.0.0))
   sizes most small (fixed f) i h = refl
 
-  no_end : (w : Lexeme) → Written text p e w → kind_of w ≡ kind.Fixed (code_of lexemes.end) → ⊥
-  unfolding kind_of
+  no_end : (w : Lexeme) → Written text p e w → kind_of w ≡ kind.Fixed (variant_of lexemes.end) → ⊥
+  unfolding kind_of code_of
   no_end (lit n) h k = let z : ◌≡◌ {A = ℕ} 0 1 = cc in omega arith
   no_end (name x) h k = let z : ◌≡◌ {A = ℕ} 0 1 = cc in omega arith
   no_end (class x) h k = let z : ◌≡◌ {A = ℕ} 0 1 = cc in omega arith
   no_end (string q) h k = let z : ◌≡◌ {A = ℕ} 0 1 = cc in omega arith
-  no_end (fixed f) h k = let z : code_of f ≡ code_of lexemes.end = cc in eqb-false (code_of f) (code_of lexemes.end) h z
+  no_end (fixed f) h k = let v : variant_of f ≡ variant_of lexemes.end = cc in let z : code_of f ≡ code_of lexemes.end = ap number v in eqb-false (code_of f) (code_of lexemes.end) h z
 
 -- ---- what stands next
 

@@ -3,7 +3,7 @@
 #![tactic(auto)]
 
 use base::Refused;
-use lexeme::{Kind, Lexeme, fixed};
+use lexeme::{Fixed, Kind, Lexeme};
 use limits::Limits;
 use std::io;
 use std::io::Write;
@@ -18,7 +18,7 @@ fn say_kind(rt: &HostRuntime, kind: Kind) -> io::Result<()> {
         Kind::Name => print!(rt; " name"),
         Kind::Class => print!(rt; " class"),
         Kind::Str => print!(rt; " string"),
-        Kind::Fixed(n) => print!(rt; " fixed {n}"),
+        Kind::Fixed(f) => print!(rt; " fixed {}", lexeme::number(f)),
     }
 }
 
@@ -41,7 +41,7 @@ fn say_lexemes(rt: &HostRuntime, text: &[u8]) -> io::Result<()> {
         let Ok(l) = next else {
             return say_last(rt, next);
         };
-        if l.kind == Kind::Fixed(fixed::END) {
+        if l.kind == Kind::Fixed(Fixed::End) {
             return say_last(rt, next);
         }
         say_lexeme(rt, l)?;

@@ -1,5 +1,5 @@
 // The reader of lexemes: the next one of a text, or refusal 2. It knows no limits.
-#![tactic(auto, using(crate::proofs::Laws::laws), unfolding(lexeme::specs::Lexemes::found, lexeme::specs::Lexemes::colon, lexeme::specs::Lexemes::symbols, lexeme::specs::Lexemes::symbol, lexeme::specs::Lexemes::next, lexeme::specs::inner::Coded::kind_of, lexeme::specs::inner::Coded::coded, lexeme::specs::inner::Coded::code_of))]
+#![tactic(auto, using(crate::proofs::Laws::laws), unfolding(lexeme::specs::Lexemes::found, lexeme::specs::Lexemes::colon, lexeme::specs::Lexemes::symbols, lexeme::specs::Lexemes::symbol, lexeme::specs::Lexemes::next, lexeme::specs::inner::Coded::kind_of, lexeme::specs::inner::Coded::coded))]
 
 ghost use Rattle.std.specs.Prelude.{◌≡◌, true, false, ◌+◌, ◌-◌, ◌<◌, min, length, drop};
 ghost use Rattle.base.specs.declared.Refusal.TheVariants.{NoLexeme};
@@ -8,7 +8,7 @@ ghost use Rattle.lexeme.specs.Lexemes.{word, string_at, symbols, symbol, colon, 
 ghost use Rattle.lexeme.specs.inner.Coded.{coded};
 
 use base::{Refusal, Refused};
-use lexeme::{Kind, Lexeme, fixed};
+use lexeme::{Fixed, Kind, Lexeme};
 
 // What is no lexeme, refused at its place.
 fn no_lexeme(place: usize) -> Refused
@@ -98,7 +98,7 @@ fn colon_at(text: &[u8], p: usize) -> Result<Lexeme, Refused>
 {
     match text.get(p + 1) {
         Some(b'=') => Ok(Lexeme {
-            kind: Kind::Fixed(b':'),
+            kind: Kind::Fixed(Fixed::Becomes),
             place: p,
             end: p + 2,
         }),
@@ -111,28 +111,29 @@ fn symbol_at(b: u8, p: usize, q: usize) -> Result<Lexeme, Refused>
     requires { q ≡ p + 1 }
     ensures { result ≡ coded (symbol symbols p b) }
 {
-    match b {
-        b'='
-        | b','
-        | b'.'
-        | b'>'
-        | b'<'
-        | b'+'
-        | b'-'
-        | b'*'
-        | b'/'
-        | b'('
-        | b')'
-        | b'['
-        | b']'
-        | b'{'
-        | b'}' => Ok(Lexeme {
-            kind: Kind::Fixed(b),
-            place: p,
-            end: q,
-        }),
-        _ => Err(no_lexeme(p)),
-    }
+    let fixed = match b {
+        b'=' => Fixed::Equals,
+        b',' => Fixed::Comma,
+        b'.' => Fixed::Dot,
+        b'>' => Fixed::Greater,
+        b'<' => Fixed::Less,
+        b'+' => Fixed::Plus,
+        b'-' => Fixed::Minus,
+        b'*' => Fixed::Star,
+        b'/' => Fixed::Slash,
+        b'(' => Fixed::OpenRound,
+        b')' => Fixed::CloseRound,
+        b'[' => Fixed::OpenSquare,
+        b']' => Fixed::CloseSquare,
+        b'{' => Fixed::OpenBrace,
+        b'}' => Fixed::CloseBrace,
+        _ => return Err(no_lexeme(p)),
+    };
+    Ok(Lexeme {
+        kind: Kind::Fixed(fixed),
+        place: p,
+        end: q,
+    })
 }
 
 // What begins at a place, where no separator stands.
@@ -141,7 +142,7 @@ fn here(text: &[u8], p: usize) -> Result<Lexeme, Refused>
 {
     let Some(&b) = text.get(p) else {
         return Ok(Lexeme {
-            kind: Kind::Fixed(fixed::END),
+            kind: Kind::Fixed(Fixed::End),
             place: p,
             end: p,
         });

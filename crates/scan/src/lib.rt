@@ -7,7 +7,7 @@ ghost use Rattle.lexeme.specs.Lexemes.{lexemes};
 ghost use Rattle.lexeme.specs.inner.Coded.{scanned, large};
 
 use base::{Refusal, Refused};
-use lexeme::{Kind, Lexeme, fixed};
+use lexeme::{Fixed, Kind, Lexeme};
 use limits::Limits;
 
 // Whether a text is too long: refusal 1.
@@ -46,7 +46,7 @@ pub fn scan(text: &[u8]) -> Result<Lexeme, Refused>
                 place: l.place,
             });
         }
-        if l.kind == Kind::Fixed(fixed::END) {
+        if l.kind == Kind::Fixed(Fixed::End) {
             return Ok(l);
         }
         at = l.end;

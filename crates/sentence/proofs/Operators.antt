@@ -24,7 +24,7 @@ unfolding code_of fixed_of fixed_in fixeds symbols keywords
 no_255 w = sym (ne_eqb 255 (code_of w) (λ e. let f = ap code_of (ap fixed_of e ∙ fixed_back w) in omega arith))
 
 pub is_number : (w : Fixed) (l : Lexeme) → is w l ≡ eqb (number_of l) (code_of w)
-unfolding is kind_of fixed_number
+unfolding is kind_of fixed_number code_of
 is_number w (lit n) = no_255 w
 is_number w (name x) = no_255 w
 is_number w (class x) = no_255 w
@@ -56,11 +56,11 @@ neither l w b h = rw (is_number w l) ((or-eq-false-eq-eq-false-and-eq-false (eqb
 -- ---- signs
 
 pub sign_of : (n : ℕ) → is_sign n ≡ true → (g : Sign) × (n ≡ number_of (sign g))
-unfolding is_sign sign kind_of fixed_number
+unfolding is_sign sign kind_of fixed_number code_of
 sign_of n h = elim (either n (code_of plus_sign) (eqb n (code_of minus_sign)) h) [ inl e ↦ (plus, e) | inr e ↦ (minus, eqb-true n (code_of minus_sign) e) ]
 
 pub sign_numbered : (l : Lexeme) (g : Sign) → number_of l ≡ number_of (sign g) → l ≡ sign g
-unfolding sign kind_of fixed_number
+unfolding sign kind_of fixed_number code_of
 sign_numbered l plus = numbered plus_sign l
 sign_numbered l minus = numbered minus_sign l
 
@@ -77,11 +77,11 @@ module _ (such : Sign → State) (other : State) where
 -- ---- `*` and `/`
 
 pub mul_of : (n : ℕ) → is_mul n ≡ true → (o : Mul) × (n ≡ number_of (mul o))
-unfolding is_mul mul kind_of fixed_number
+unfolding is_mul mul kind_of fixed_number code_of
 mul_of n h = elim (either n (code_of star) (eqb n (code_of slash)) h) [ inl e ↦ (times, e) | inr e ↦ (over, eqb-true n (code_of slash) e) ]
 
 pub mul_numbered : (l : Lexeme) (o : Mul) → number_of l ≡ number_of (mul o) → l ≡ mul o
-unfolding mul kind_of fixed_number
+unfolding mul kind_of fixed_number code_of
 mul_numbered l times = numbered star l
 mul_numbered l over = numbered slash l
 
@@ -98,14 +98,14 @@ module _ (such : Mul → State) (other : State) where
 -- ---- relations
 
 pub rel_of : (n : ℕ) → is_rel n ≡ true → (r : Rel) × (n ≡ number_of (rel r))
-unfolding is_rel rel kind_of fixed_number
+unfolding is_rel rel kind_of fixed_number code_of
 rel_of n h = elim (either n (code_of less_sign) (eqb n (code_of greater_sign) || eqb n (code_of equals_sign)) h) [
   | inl e ↦ (less, e)
   | inr g ↦ elim (either n (code_of greater_sign) (eqb n (code_of equals_sign)) g) [ inl e ↦ (greater, e) | inr e ↦ (equal, eqb-true n (code_of equals_sign) e) ]
 ]
 
 pub rel_numbered : (l : Lexeme) (r : Rel) → number_of l ≡ number_of (rel r) → l ≡ rel r
-unfolding rel kind_of fixed_number
+unfolding rel kind_of fixed_number code_of
 rel_numbered l less = numbered less_sign l
 rel_numbered l greater = numbered greater_sign l
 rel_numbered l equal = numbered equals_sign l

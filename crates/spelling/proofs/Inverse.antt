@@ -187,7 +187,7 @@ module _ (most : Sizes) (text : List ℕ) where
 module _ (text : List ℕ) (p e : ℕ) where
   -- what the code's lexeme is in the text is written as it stands there; a literal may have needless zeros
   copied : (w : Lexeme) → Written text p e w → OwnBytes text p e w → ((v : ℕ) → kind_of w ≡ kind.Literal v → ⊥) → part text p e ≡ written (what_of text p e (kind_of w))
-  unfolding kind_of what_of written
+  unfolding kind_of what_of written code_of
   copied (lit n) h b other = absurd (other (min n 4294967295) refl)
   copied (name x) h b other = refl
   copied (class x) h b other = refl

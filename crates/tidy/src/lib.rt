@@ -8,7 +8,7 @@ ghost use Rattle.tidy.specs.declared.Uncopied.TheVariants.{Refused};
 ghost use Rattle.tidy.specs.inner.Copies.{without_zeros, copied, gap, Puts, Writes, CopiedSo};
 
 use base::Refused;
-use lexeme::{Kind, Lexeme, fixed};
+use lexeme::{Fixed, Kind, Lexeme};
 use limits::Limits;
 
 // The number of the refusal that is of the copy and not of the text.
@@ -89,7 +89,7 @@ fn write(text: &[u8], room: &mut [u8]) -> Option<usize>
     loop {
         // In a text that has been judged nothing is refused.
         let l = lexer::next(text, at).ok()?;
-        if lexeme::fixed_of(l.kind) == fixed::END {
+        if l.kind == Kind::Fixed(Fixed::End) {
             return Some(n);
         }
         n = put(room, n, copied(text, l))?;

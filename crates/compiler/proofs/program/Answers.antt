@@ -1,8 +1,8 @@
 -- `compiler::program` meets its contract. Assumes nothing.
 use Rattle.lexeme.specs.inner.Coded.{code_of}
 use native.Mathlib.Omega.{arith}
-use mathlib.Core.Path.{sym, ◌∙◌}
 use Rattle.std.proofs.lemmas.Result.{err_from_is_err_and}
+use Rattle.compiler.proofs.Looked.{met_ahead, not_met}
 use Rattle.compiler.proofs.Programs.{begun, not_lexed, not_begun, begun_ready, command_refused, not_ended, whole_read}
 use Rattle.compiler.proofs.program.Goals as goal
 
@@ -24,10 +24,10 @@ pub returns-in_err-r : goal.returns-in_err-r
 unfolding code_of
 returns-in_err-r c = let p = err_from_is_err_and c.from_residual-in_err-r.result c.from_residual-in_err-r.ensures.1 in rw (p.1, p.2) (command_refused (begun c.requires (rw c.start.ensures at c.in_ok-w.ensures) c.in_ok-x.ensures) _ c.in_err-r.ensures)
 
-pub returns-then-fixed_ahead-ne-END : goal.returns-then-fixed_ahead-ne-END
+pub returns-then-not-is_ahead : goal.returns-then-not-is_ahead
 unfolding code_of
-returns-then-fixed_ahead-ne-END c = rw c.refused_ahead.ensures (not_ended (begun c.requires (rw c.start.ensures at c.in_ok-w.ensures) c.in_ok-x.ensures) _ c.in_ok-r.ensures (λ h. c.if-fixed_ahead-ne-END.true (c.fixed_ahead.ensures ∙ h)))
+returns-then-not-is_ahead c = rw c.refused_ahead.ensures (not_ended (begun c.requires (rw c.start.ensures at c.in_ok-w.ensures) c.in_ok-x.ensures) _ c.in_ok-r.ensures (not_met c.is_ahead.ensures c.if-not-is_ahead.true))
 
 pub returns : goal.returns
 unfolding code_of
-returns c = whole_read (begun c.requires (rw c.start.ensures at c.in_ok-w.ensures) c.in_ok-x.ensures) _ c.in_ok-r.ensures (sym c.fixed_ahead.ensures ∙ c.if-fixed_ahead-ne-END.false)
+returns c = whole_read (begun c.requires (rw c.start.ensures at c.in_ok-w.ensures) c.in_ok-x.ensures) _ c.in_ok-r.ensures (met_ahead c.is_ahead.ensures c.if-not-is_ahead.false)

@@ -6,7 +6,8 @@ use Rattle.base.specs.declared.Refused.{Refused}
 use Rattle.base.specs.inner.Parts.{part}
 use Rattle.lexeme.specs.Lexemes as L
 use Rattle.lexeme.specs.Lexemes.{DO, IF, THEN, WHILE, open_brace, end, next}
-use Rattle.lexeme.specs.inner.Coded.{code_of, coded, fixed_number, Stands}
+use Rattle.lexeme.specs.inner.Coded.{variant_of, code_of, coded, fixed_number, Stands}
+use Rattle.lexeme.specs.declared.Fixed.{Fixed}
 use Rattle.lexeme.specs.declared.Kind.{Kind}
 use Rattle.lexeme.specs.declared.Kind.TheVariants as kind
 use Rattle.lexeme.specs.declared.Lexeme.{Lexeme}
@@ -20,7 +21,7 @@ use Rattle.tables.specs.inner.Tables.{put, operand_of}
 -- ---- the walk
 
 abbrev pub start_at : ℕ → Walk
-start_at place = record { next = record { kind = kind.Fixed (code_of end); place = 0; end = 0 }; code = place; fault = None }
+start_at place = record { next = record { kind = kind.Fixed (variant_of end); place = 0; end = 0 }; code = place; fault = None }
 
 unfoldable pub moved_to : Walk → Lexeme → Walk
 moved_to w l = record { next = l; code = w.code; fault = w.fault }
@@ -56,6 +57,14 @@ pub record Past (text : List ℕ) (w v : Walk) : Type 0 where
 abbrev pub Advances : List ℕ → Walk → Result Walk Refused → Type 0
 Advances text w (Ok v) = Past text w v
 Advances text w (Err e) = Lost text w.next e
+
+-- the fixed lexeme that a kind is, where its number is such
+unfoldable pub such_in : (ℕ → Bool) → Kind → Option Fixed
+such_in test (kind.Literal v) = None
+such_in test kind.Name = None
+such_in test kind.Class = None
+such_in test kind.Str = None
+such_in test (kind.Fixed f) = cond (test (fixed_number (kind.Fixed f))) (Some f) None
 
 -- the lexeme ahead of w is the fixed one of this number, and the walk v is past it
 pub record Crossed (text : List ℕ) (w : Walk) (f : ℕ) (v : Walk) : Type 0 where
@@ -96,7 +105,7 @@ unfoldable pub ended_table : Bool → List ℤ → ℕ → ℕ → List ℤ
 ended_table true table n back = put table n (encode (jump back) [])
 ended_table false table n back = table
 
--- the operation of a symbol's byte
+-- the operation of the operator or relation of this number
 unfoldable pub operation_number : ℕ → ℤ
 operation_number b =
     cond (eqb b (code "+")) (number plus)

@@ -1,20 +1,14 @@
 -- `lexeme::capital_word` meets its contract. Assumes nothing.
-use Prim.Native.Nat.{ℕ}
-use mathlib.Core.Path.{◌≡◌, sym, ◌∙◌}
-use mathlib.Core.Bool.{Bool, true, false}
-use mathlib.Core.List.{List}
-use Rattle.lexeme.specs.Lexemes.{keywords, capital_word}
-use Rattle.lexeme.specs.inner.Coded.{kind_of}
-use Rattle.lexeme.specs.inner.Spotting.{candidate, is_keyword}
-use Rattle.lexeme.proofs.Keywords.{compared, spotted}
+use mathlib.Core.Path.{sym, ◌∙◌}
+use mathlib.Core.Bool.{true, false}
+use Rattle.lexeme.proofs.Keywords.{spotted, spotted_none}
 use Rattle.lexeme.proofs.capital_word.Goals as goal
 
--- after the comparison
-tells : (w : List ℕ) (n : ℕ) (t : Bool) → n ≡ candidate w → t ≡ is_keyword keywords n w → (p : ℕ) → compared n t ≡ kind_of (capital_word keywords p w)
-tells w n t a b p = rw (b, a) (spotted w p)
+pub returns-in-Some : goal.returns-in-Some
+returns-in-Some c = spotted _ _ true (sym c.candidate.ensures ∙ c.in-Some.is) (sym c.if-is_keyword.true ∙ c.is_keyword.ensures)
 
-pub returns-then-is_keyword : goal.returns-then-is_keyword
-returns-then-is_keyword c = tells _ _ true c.candidate-number.ensures (sym c.if-is_keyword.true ∙ c.is_keyword.ensures)
+pub returns-in_default : goal.returns-in_default
+returns-in_default c = spotted _ _ false (sym c.candidate.ensures ∙ c.in-Some.is) (sym c.if-is_keyword.false ∙ c.is_keyword.ensures)
 
-pub returns : goal.returns
-returns c = tells _ _ false c.candidate-number.ensures (sym c.if-is_keyword.false ∙ c.is_keyword.ensures)
+pub returns-in_default-2 : goal.returns-in_default-2
+returns-in_default-2 c = spotted_none _ (sym c.candidate.ensures ∙ c.in_default.is)

@@ -1,10 +1,8 @@
 use Rattle.std.proofs.Common.{arith, rules}
-use Rattle.lexeme.specs.inner.Coded.{code_of}
 use Rattle.lexeme.proofs.Places.{next_stands}
 use Rattle.lexeme_test.proofs.say_lexemes.Goals as goal
 
 pub loop-l-smaller : goal.loop-l-smaller
-unfolding code_of
 loop-l-smaller c =
     let s = next_stands c.args.text.now c.loop-l.at _ c.loop-l.invariant c.in-Ok.ensures in
     omega (arith, s.0, s.1.some (λ e. search rules), s.1.within)

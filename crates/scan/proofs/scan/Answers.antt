@@ -3,7 +3,6 @@ use Rattle.std.proofs.Common.{◌<◌, sym, arith, rules}
 use Rattle.std.proofs.lemmas.Result.{err_from_is_err_and}
 use lib.Dec.{lit<}
 use Rattle.limits.specs.Limits.{the_sizes}
-use Rattle.lexeme.specs.inner.Coded.{code_of}
 use Rattle.lexeme.proofs.Places.{next_stands}
 use Rattle.lexeme.proofs.Scans.{scan_starts, scan_refused, scan_large, scan_ends, scan_on}
 use Rattle.scan.proofs.scan.Goals as goal
@@ -26,15 +25,12 @@ pub returns-then-is_too_large : goal.returns-then-is_too_large
 returns-then-is_too_large c = scan_large the_sizes c.args.text.now c.loop-l.at c.loop-l.invariant small _ c.in_ok-l.ensures (sym c.if-is_too_large.ensures)
 
 pub returns-then-eq : goal.returns-then-eq
-unfolding code_of
 returns-then-eq c = scan_ends the_sizes c.args.text.now c.loop-l.at c.loop-l.invariant small _ c.in_ok-l.ensures (search rules)
 
 pub loop-l-smaller : goal.loop-l-smaller
-unfolding code_of
 loop-l-smaller c =
     let s = next_stands c.args.text.now c.loop-l.at _ c.loop-l.invariant.within c.in_ok-l.ensures in
     omega (arith, s.0, s.1.some (λ e. search rules), s.1.within)
 
 pub loop-l-preserved : goal.loop-l-preserved
-unfolding code_of
 loop-l-preserved c = scan_on the_sizes c.args.text.now c.loop-l.at c.loop-l.invariant small _ c.in_ok-l.ensures (sym c.if-is_too_large.ensures) (λ e. search rules)

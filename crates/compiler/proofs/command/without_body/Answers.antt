@@ -1,11 +1,15 @@
 -- `compiler::command::without_body` meets its contract. Assumes nothing.
-use mathlib.Core.Path.{refl, sym, ◌∙◌}
+use borrow.Author.Rules.{rules}
+use mathlib.Core.Path.{◌≡◌, refl}
 use native.Mathlib.Nat.{le_refl}
 use native.Mathlib.Omega.{arith}
 use Rattle.lexeme.specs.inner.Coded.{code_of}
+use Rattle.lexeme.specs.declared.Fixed.TheVariants as variant
+use Rattle.lexeme.specs.declared.Kind.TheVariants as kind
 use Rattle.compiler.specs.inner.Steps.{moved_to}
 use Rattle.compiler.proofs.Bodies.{ready_first, reads_begun, error_done}
 use Rattle.compiler.proofs.Commands.{begins_assign, begins_declare, begins_print, begins_line, begins_string, begins_read, no_command}
+use Rattle.compiler.proofs.Looked.{is_the, is_not_the}
 use Rattle.compiler.proofs.Replies.{code_fits}
 use Rattle.compiler.proofs.command.without_body.Goals as goal
 
@@ -28,40 +32,40 @@ print_int-requires c = ready_first c.requires.first (le_refl _)
 pub print_string-requires : goal.print_string-requires
 print_string-requires c = ready_first c.requires.first (le_refl _)
 
-pub print_string-requires-in-14 : goal.print_string-requires-in-14
-print_string-requires-in-14 c = ready_first c.requires.first (le_refl _)
+pub print_string-requires-in-Fixed-Prints : goal.print_string-requires-in-Fixed-Prints
+print_string-requires-in-Fixed-Prints c = ready_first c.requires.first (le_refl _)
 
 pub read-requires : goal.read-requires
 read-requires c = ready_first c.requires.first (le_refl _)
 
-pub returns-in-4 : goal.returns-in-4
+pub returns-in-Fixed-Error : goal.returns-in-Fixed-Error
 unfolding moved_to code_of
-returns-in-4 c = rw (c.emitted.ensures.0, c.emitted.ensures.1) (error_done c.requires.first (sym c.fixed_of.ensures ∙ c.in-4.is))
+returns-in-Fixed-Error c = rw (c.emitted.ensures.0, c.emitted.ensures.1) (error_done c.requires.first (is_the (let e : c.args.l.kind ≡ kind.Fixed variant.Error = search rules in e)))
 
-pub returns-in-8 : goal.returns-in-8
+pub returns-in-Fixed-Int : goal.returns-in-Fixed-Int
 unfolding moved_to code_of
-returns-in-8 c = reads_begun c.requires.first (begins_declare _ (sym c.fixed_of.ensures ∙ c.in-8.is)) _ _ _ _ (omega arith) refl c.declare.ensures
+returns-in-Fixed-Int c = reads_begun c.requires.first (begins_declare _ (is_the (let e : c.args.l.kind ≡ kind.Fixed variant.Int = search rules in e))) _ _ _ _ (omega arith) refl c.declare.ensures
 
-pub returns-in-12 : goal.returns-in-12
+pub returns-in-Fixed-Printi : goal.returns-in-Fixed-Printi
 unfolding moved_to code_of
-returns-in-12 c = reads_begun c.requires.first (begins_print _ (sym c.fixed_of.ensures ∙ c.in-12.is)) _ _ _ _ (omega arith) refl c.print_int.ensures
+returns-in-Fixed-Printi c = reads_begun c.requires.first (begins_print _ (is_the (let e : c.args.l.kind ≡ kind.Fixed variant.Printi = search rules in e))) _ _ _ _ (omega arith) refl c.print_int.ensures
 
-pub returns-in-13 : goal.returns-in-13
+pub returns-in-Fixed-Printlns : goal.returns-in-Fixed-Printlns
 unfolding moved_to code_of
-returns-in-13 c = reads_begun c.requires.first (begins_line _ (sym c.fixed_of.ensures ∙ c.in-13.is)) _ _ _ _ (omega arith) refl c.print_string.ensures
+returns-in-Fixed-Printlns c = reads_begun c.requires.first (begins_line _ (is_the (let e : c.args.l.kind ≡ kind.Fixed variant.Printlns = search rules in e))) _ _ _ _ (omega arith) refl c.print_string.ensures
 
-pub returns-in-14 : goal.returns-in-14
+pub returns-in-Fixed-Prints : goal.returns-in-Fixed-Prints
 unfolding moved_to code_of
-returns-in-14 c = reads_begun c.requires.first (begins_string _ (sym c.fixed_of.ensures ∙ c.in-14.is)) _ _ _ _ (omega arith) refl c.print_string-in-14.ensures
+returns-in-Fixed-Prints c = reads_begun c.requires.first (begins_string _ (is_the (let e : c.args.l.kind ≡ kind.Fixed variant.Prints = search rules in e))) _ _ _ _ (omega arith) refl c.print_string-in-Fixed-Prints.ensures
 
-pub returns-in-16 : goal.returns-in-16
+pub returns-in-Fixed-Read : goal.returns-in-Fixed-Read
 unfolding moved_to code_of
-returns-in-16 c = reads_begun c.requires.first (begins_read _ (sym c.fixed_of.ensures ∙ c.in-16.is)) _ _ _ _ (omega arith) refl c.read.ensures
+returns-in-Fixed-Read c = reads_begun c.requires.first (begins_read _ (is_the (let e : c.args.l.kind ≡ kind.Fixed variant.Read = search rules in e))) _ _ _ _ (omega arith) refl c.read.ensures
 
-pub returns-in_default-fixed_of : goal.returns-in_default-fixed_of
+pub returns-in_default : goal.returns-in_default
 unfolding moved_to code_of
-returns-in_default-fixed_of c =
-    let n = c.fixed_of.ensures in
-    let rest = c.in_default-fixed_of.in_default-fixed_of-own.rest in
-    no_command c.requires.first.ready.stands _ c.in_default.not-Name
-    (λ h. rest.0.0.0.0.0.1 (n ∙ h)) (λ h. rest.0.0.0.0.1 (n ∙ h)) (λ h. rest.0.0.0.1 (n ∙ h)) (λ h. rest.0.0.1 (n ∙ h)) (λ h. rest.0.1 (n ∙ h)) (λ h. rest.1 (n ∙ h)) c.requires.kind_value
+returns-in_default c = no_command c.requires.first.ready.stands _ c.in_default.not-Name (is_not_the variant.Error (λ e. search rules)) (is_not_the variant.Int (λ e. search rules)) (is_not_the variant.Printi (λ e. search rules)) (is_not_the variant.Printlns (λ e. search rules)) (is_not_the variant.Prints (λ e. search rules)) (is_not_the variant.Read (λ e. search rules)) c.requires.kind_value
+
+pub returns-in_default-2 : goal.returns-in_default-2
+unfolding moved_to code_of
+returns-in_default-2 c = no_command c.requires.first.ready.stands _ c.in_default.not-Name (is_not_the variant.Error (λ e. search rules)) (is_not_the variant.Int (λ e. search rules)) (is_not_the variant.Printi (λ e. search rules)) (is_not_the variant.Printlns (λ e. search rules)) (is_not_the variant.Prints (λ e. search rules)) (is_not_the variant.Read (λ e. search rules)) c.requires.kind_value

@@ -18,14 +18,14 @@ decreases-first_term l = l.allow * 5 + 3
 abbrev pub decreases-term : goal.decreases-term
 decreases-term l = l.allow * 5 + 2
 
-abbrev pub invariant-expression-loop-so_far : goal.invariant-expression-loop-so_far
-invariant-expression-loop-so_far l = Got first_term_way l.text l.names l.fn.table l.fn.w l.allow l.names l.table l.so_far.walk l.so_far.need
+abbrev pub invariant-expression-loop-f : goal.invariant-expression-loop-f
+invariant-expression-loop-f l = Got first_term_way l.text l.names l.fn.table l.fn.w l.allow l.names l.table l.so_far.walk l.so_far.need
 
-abbrev pub decreases-expression-loop-so_far : goal.decreases-expression-loop-so_far
-decreases-expression-loop-so_far l = length l.text - l.so_far.walk.next.place
+abbrev pub decreases-expression-loop-f : goal.decreases-expression-loop-f
+decreases-expression-loop-f l = length l.text - l.so_far.walk.next.place
 
-abbrev pub invariant-term-loop-so_far : goal.invariant-term-loop-so_far
-invariant-term-loop-so_far l = Got term_so_far l.text l.names l.fn.table l.fn.w l.allow l.names l.table l.so_far.walk l.so_far.need
+abbrev pub invariant-term-loop-f : goal.invariant-term-loop-f
+invariant-term-loop-f l = Got term_so_far l.text l.names l.fn.table l.fn.w l.allow l.names l.table l.so_far.walk l.so_far.need
 
-abbrev pub decreases-term-loop-so_far : goal.decreases-term-loop-so_far
-decreases-term-loop-so_far l = length l.text - l.so_far.walk.next.place
+abbrev pub decreases-term-loop-f : goal.decreases-term-loop-f
+decreases-term-loop-f l = length l.text - l.so_far.walk.next.place
