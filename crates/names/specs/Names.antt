@@ -51,7 +51,7 @@ look_up (d ∷ ds) x s = elim (same d.spelled x.spelled) [ true ↦ given (recor
 unfoldable pub used : Name → Naming ℕ
 used x = λ s. look_up s.visible x s
 
--- one declaration more. Cell k, one-up from 0, belongs to the k-th declaration in the text; cells aren't shared.
+-- one declaration more. Cell k, counted from 0, belongs to the k-th declaration in the text; cells aren't shared.
 unfoldable pub one_more : Name → Scope → Scope
 one_more x s = record {
   visible = record { spelled = x.spelled; cell = s.next_cell; block = s.blocks } ∷ s.visible;
