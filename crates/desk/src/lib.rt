@@ -13,7 +13,7 @@ use std::io;
 use std::io::{Error, ErrorKind, Write};
 use std::process::ExitCode;
 
-// The status of a program that could not do its work.
+// The status of a program that could not do its work. A number and no variant of `tells::Status`: what a program says of a text is never trouble.
 pub const TROUBLE: u8 = 2;
 
 // Bytes of a file's name, at most.
@@ -110,7 +110,7 @@ pub fn with_text<F: FnOnce(&[u8]) -> ExitCode>(
     }
 }
 
-// The same with what a lesson is run on.
+// The same with what a lesson is run on. The buffers are lent by each main, alike as they are: a program's memory is fixed, and is to be seen there.
 pub fn with_lesson<F: FnOnce(&[u8], &[i32]) -> ExitCode>(
     rt: &HostRuntime,
     text: &mut [u8],

@@ -9,7 +9,8 @@ ghost use Rattle.lexeme.specs.inner.Spotting.{alike, six_letters, candidate, is_
 use super::Fixed;
 use base::is_same;
 
-// The keyword of two letters that begins with this one; None where there is none, here and below.
+// The keyword of two letters that begins with this one; None where there is none, here and below. A match for each length and no table of the 21:
+// a search in it would meet more than the one keyword that a word is compared with.
 fn of_two(first: u8) -> Option<Fixed>
     ensures { result ≡ alike keywords 2 first }
 {

@@ -6,6 +6,7 @@ ghost use Rattle.reading.specs.Reading.{in_signed_range, signed, number_in_range
 ghost use Rattle.reading.specs.inner.Words.{digit_more, word_more, as_reading};
 
 // What the bytes since the last separator are: none, a minus alone, a number with its sign and magnitude; or the readings are over.
+// The sign stands beside the magnitude, since `-0` may go on to `-05`: of a number alone it would be lost.
 #[derive(Clone, Copy, PartialEq, Eq, Debug)]
 pub enum Phase {
     Between,
