@@ -7,7 +7,7 @@ use std::process::ExitCode;
 fn copy(rt: &HostRuntime, text: &[u8]) -> ExitCode {
     let mut page = [0u8; programs::COPY];
     let said = programs::copy(text, &mut page);
-    desk::deliver(rt, &page[..said.out], b"", said.status as u8)
+    desk::deliver(rt, &page[..said.out], b"", tells::number(said.status))
 }
 
 fn main(rt: HostRuntime) -> ExitCode {

@@ -9,7 +9,12 @@ fn send(rt: &HostRuntime, text: &[u8], readings: &[i32]) -> ExitCode {
     let mut page = [0u8; tells::PAGE];
     let mut note = [0u8; tells::LINE];
     let said = programs::feed(text, readings, &mut room, &mut page, &mut note);
-    desk::deliver(rt, &page[..said.out], &note[..said.err], said.status as u8)
+    desk::deliver(
+        rt,
+        &page[..said.out],
+        &note[..said.err],
+        tells::number(said.status),
+    )
 }
 
 fn main(rt: HostRuntime) -> ExitCode {

@@ -7,7 +7,7 @@ use std::process::ExitCode;
 fn list(rt: &HostRuntime, text: &[u8]) -> ExitCode {
     let mut page = [0u8; tells::LISTING];
     let said = programs::listing(text, &mut page);
-    desk::deliver(rt, &page[..said.out], b"", said.status as u8)
+    desk::deliver(rt, &page[..said.out], b"", tells::number(said.status))
 }
 
 fn main(rt: HostRuntime) -> ExitCode {

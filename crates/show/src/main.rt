@@ -9,7 +9,7 @@ fn show(rt: &HostRuntime, text: &[u8], readings: &[i32]) -> ExitCode {
     let came = programs::lesson(text, readings, &mut room);
     let mut page = [0u8; pupil::SHOWN];
     let said = pupil::show(came, words::of_the_paper(), text, &room, &mut page);
-    desk::deliver(rt, &page[..said.out], b"", said.status as u8)
+    desk::deliver(rt, &page[..said.out], b"", tells::number(said.status))
 }
 
 fn main(rt: HostRuntime) -> ExitCode {

@@ -9,7 +9,7 @@ use tells::Said;
 
 fn said(rt: &HostRuntime, s: Said, page: &[u8; pupil::SHOWN]) -> io::Result<()> {
     rt.stdout().write_all(base::part(page, 0, s.out))?;
-    let status = s.status as u8;
+    let status = tells::number(s.status);
     println!(rt; "status {status}")
 }
 

@@ -8,7 +8,7 @@ fn run(rt: &HostRuntime, text: &[u8], readings: &[i32]) -> ExitCode {
     let mut room = [0u8; Station::ROOM];
     let mut page = [0u8; tells::PAGE];
     let said = programs::station(text, readings, &mut room, &mut page);
-    desk::deliver(rt, &page[..said.out], b"", said.status as u8)
+    desk::deliver(rt, &page[..said.out], b"", tells::number(said.status))
 }
 
 fn main(rt: HostRuntime) -> ExitCode {

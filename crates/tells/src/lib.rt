@@ -23,6 +23,13 @@ pub enum Status {
     NotGood = 1,
 }
 
+// The number of a status.
+pub fn number(status: Status) -> u8
+    ensures { result ≡ number status }
+{
+    status as u8
+}
+
 // How many bytes stand on the page for standard output and on the one for standard error, and the status.
 #[derive(Clone, Copy)]
 pub struct Said {
