@@ -7,7 +7,7 @@ ghost use Rattle.base.specs.Bytes.{separator, small, letter, digit, letter_or_di
 ghost use Rattle.lexeme.specs.Lexemes.{word, string_at, symbols, symbol, colon, here, next};
 ghost use Rattle.lexeme.specs.inner.Coded.{coded};
 
-use base::{Refusal, Refused};
+use base::{Refusal, Refused, such};
 use lexeme::{Fixed, Kind, Lexeme};
 
 // What is no lexeme, refused at its place.
@@ -39,7 +39,7 @@ fn name_at(text: &[u8], p: usize) -> Result<Lexeme, Refused>
     Ok(Lexeme {
         kind: Kind::Name,
         place: p,
-        end: base::run_end(text, p, base::is_letter_or_digit),
+        end: base::run_end::<such::LetterOrDigit>(text, p),
     })
 }
 
@@ -48,8 +48,8 @@ fn capital_word_at(text: &[u8], p: usize) -> Result<Lexeme, Refused>
     requires { (begins letter (drop p text.now) ≡ true) × (begins small (drop p text.now) ≡ false) }
     ensures { result ≡ coded (word p (run letter_or_digit (drop p text.now))) }
 {
-    let e = base::run_end(text, p, base::is_letter);
-    if !base::is_at(text, e, base::is_digit) {
+    let e = base::run_end::<such::Letter>(text, p);
+    if !base::is_at::<such::Digit>(text, e) {
         return Ok(Lexeme {
             kind: lexeme::capital_word(&text[p..e]),
             place: p,
@@ -64,8 +64,8 @@ fn digits_at(text: &[u8], p: usize) -> Result<Lexeme, Refused>
     requires { begins digit (drop p text.now) ≡ true }
     ensures { result ≡ coded (word p (run letter_or_digit (drop p text.now))) }
 {
-    let e = base::run_end(text, p, base::is_digit);
-    if !base::is_at(text, e, base::is_letter) {
+    let e = base::run_end::<such::Digit>(text, p);
+    if !base::is_at::<such::Letter>(text, e) {
         return Ok(Lexeme {
             kind: Kind::Literal(value_of(&text[p..e])),
             place: p,
@@ -80,7 +80,7 @@ fn string_at(text: &[u8], p: usize) -> Result<Lexeme, Refused>
     requires { p < length text.now }
     ensures { result ≡ coded (string_at p (drop (p + 1) text.now)) }
 {
-    let e = base::run_end(text, p + 1, base::is_no_quote);
+    let e = base::run_end::<such::NoQuote>(text, p + 1);
     if text.len() <= e {
         return Err(no_lexeme(p));
     }
@@ -167,5 +167,5 @@ fn here(text: &[u8], p: usize) -> Result<Lexeme, Refused>
 pub fn next(text: &[u8], at: usize) -> Result<Lexeme, Refused>
     ensures { result ≡ coded (next text.now at) }
 {
-    here(text, base::run_end(text, at, base::is_separator))
+    here(text, base::run_end::<such::Separator>(text, at))
 }

@@ -4,6 +4,7 @@ ghost use Rattle.rooms.specs.inner.Rooms.{said};
 ghost use Rattle.moves.specs.inner.Moves.{as_led};
 ghost use Rattle.perform.specs.inner.Prints.{print, asked_str, asked_int, Performed};
 
+use base::such;
 use endings::Ending;
 use moves::{Move, State, moved};
 use numbers::decimal::put_decimal;
@@ -27,7 +28,7 @@ pub fn print_str(
 ) -> Result<Move, Ending>
     ensures { Performed (asked_str s text.now q line) out.old (as_led result) out.new }
 {
-    let end = base::run_end(text, q, base::is_no_quote);
+    let end = base::run_end::<such::NoQuote>(text, q);
     if text.len() <= end {
         return Err(Ending::BadCode);
     }

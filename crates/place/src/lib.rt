@@ -1,10 +1,13 @@
 // Where a place of a text stands.
 #![tactic(auto)]
 
-ghost use Rattle.std.specs.Prelude.{◌≡◌, Bool, ℕ, ◌≤◌, length};
+ghost use Rattle.std.specs.Prelude.{◌≡◌, ◌≤◌, length};
 ghost use Rattle.base.specs.Bytes.{run};
-ghost use Rattle.base.specs.inner.Tests.{Tells};
 ghost use Rattle.place.specs.Places.{line_feed, goes_on, begins, count, within, line_start, spot};
+
+pub mod such;
+
+use base::such::Test;
 
 // A line and a column, counted from 1, and the place of the line's first byte.
 #[derive(Clone, Copy)]
@@ -38,19 +41,17 @@ pub fn begins(b: u8) -> bool
 }
 
 // How many bytes are such.
-pub fn count<F: Fn(u8) -> bool>(bytes: &[u8], such: F) -> usize
-    requires { F.IsAlwaysCallable such }
-    ensures { (test : ℕ → Bool) → Tells (F.post such) test → result ≡ count test bytes.now }
+pub fn count<T: Test>(bytes: &[u8]) -> usize
+    ensures { result ≡ count T.such bytes.now }
 {
-    bytes.iter().filter(|b| such(**b)).count()
+    bytes.iter().filter(|b| T::is_such(**b)).count()
 }
 
 // How long the run of such bytes at the beginning is.
-pub fn run<F: Fn(u8) -> bool>(bytes: &[u8], such: F) -> usize
-    requires { F.IsAlwaysCallable such }
-    ensures { (test : ℕ → Bool) → Tells (F.post such) test → result ≡ length (run test bytes.now) }
+pub fn run<T: Test>(bytes: &[u8]) -> usize
+    ensures { result ≡ length (run T.such bytes.now) }
 {
-    base::run_end(bytes, 0, such)
+    base::run_end::<T>(bytes, 0)
 }
 
 #[tactic(auto, unfolding(crate::specs::Places::within))]
@@ -78,8 +79,8 @@ pub fn spot_of(text: &[u8], place: usize) -> Spot
 {
     let p = within(text, place);
     let start = line_start(text, p);
-    let feeds = count(&text[..p], is_line_feed);
-    let characters = count(&text[start..p], begins);
+    let feeds = count::<such::Feed>(&text[..p]);
+    let characters = count::<such::Begins>(&text[start..p]);
     Spot {
         line: feeds + 1,
         column: characters + 1,

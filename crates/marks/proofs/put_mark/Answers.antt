@@ -1,5 +1,5 @@
 -- `marks::put_mark` meets its contract. Assumes nothing.
-use Rattle.std.proofs.Common.{◌≡◌, ◌≤◌, length, arith, rules}
+use Rattle.std.proofs.Common.{◌≤◌, length, arith}
 use Rattle.base.specs.Bytes.{bytes, bytes_from}
 use Rattle.lines.proofs.Adds.{adds_then}
 use Rattle.lines.proofs.Forms.{bit}
@@ -9,12 +9,9 @@ use Rattle.marks.specs.Shown.{mark}
 use Rattle.marks.proofs.Shown.{spaces}
 use Rattle.marks.proofs.put_mark.Goals as goal
 
-counted : (c : goal.After-count) → c.count.result ≡ count begins c.args.before.now
-counted c = c.count.ensures begins (λ b r e. search (rules, e))
-
 pub overflow_add-cells-2 : goal.overflow_add-cells-2
-overflow_add-cells-2 c = let few : c.count.result ≤ length c.args.before.now = rw (counted c) (count_fits _ _) in omega (arith, bit c.args.front)
+overflow_add-cells-2 c = let few : c.count.result ≤ length c.args.before.now = rw c.count.ensures (count_fits _ _) in omega (arith, bit c.args.front)
 
 pub returns : goal.returns
 unfolding mark bytes bytes_from
-returns c = adds_then (rw (c.count.ensures begins (λ b r e. search (rules, e)), spaces c.args.front (count begins c.args.before.now)) at c.put_many-a.ensures) c.put.ensures
+returns c = adds_then (rw (c.count.ensures, spaces c.args.front (count begins c.args.before.now)) at c.put_many-a.ensures) c.put.ensures

@@ -1,5 +1,5 @@
 -- `marks::put_marked_line` meets its contract. Assumes nothing.
-use Rattle.std.proofs.Common.{◌≡◌, ℕ, ◌≤◌, List, sym, length, rules}
+use Rattle.std.proofs.Common.{◌≡◌, ℕ, ◌≤◌, List, sym, length}
 use lib.Seq.{length-take-le}
 use Rattle.base.specs.Bytes.{run}
 use Rattle.base.proofs.Runs.{run_fits}
@@ -27,12 +27,10 @@ pub slice_bounds-put_marked-end : goal.slice_bounds-put_marked-end
 slice_bounds-put_marked-end c = within_fits _ _ c.within-p.ensures
 
 pub slice_bounds-put_marked-end-2 : goal.slice_bounds-put_marked-end-2
-unfolding no_line_feed
-slice_bounds-put_marked-end-2 c = sym (length-take-le _ _ (run_end_fits _ _ (c.run-end.ensures no_line_feed (λ b r e. search (rules, e)))))
+slice_bounds-put_marked-end-2 c = sym (length-take-le _ _ (run_end_fits _ _ c.run-end.ensures))
 
 pub returns : goal.returns
-unfolding no_line_feed
 returns c =
     let rest = to_end c.args.text.now c.within-p.result in
-    let line = rw rest at (c.run-end.ensures no_line_feed (λ b r e. search (rules, e))) in
+    let line = rw rest at c.run-end.ensures in
     same_adds (marked_text _ _ _ _ _ _ c.within-p.ensures (spot_start _ _ c.spot_of-spot.ensures c.within-p.ensures) line) (rw rest at c.put_marked.ensures)

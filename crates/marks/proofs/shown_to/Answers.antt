@@ -1,7 +1,6 @@
 -- `marks::shown_to` meets its contract. Assumes nothing.
-use Rattle.std.proofs.Common.{arith, rules, sym}
+use Rattle.std.proofs.Common.{arith, sym}
 use lib.Seq.{length-take-le}
-use Rattle.place.specs.Places.{goes_on}
 use Rattle.place.proofs.Places.{within_fits}
 use Rattle.marks.proofs.Shown.{to_is, to_fits}
 use Rattle.marks.proofs.shown_to.Goals as goal
@@ -16,7 +15,7 @@ pub slice_bounds-run-end : goal.slice_bounds-run-end
 slice_bounds-run-end c = sym (length-take-le _ _ (within_fits _ _ c.within-rest.ensures))
 
 pub returns : goal.returns
-returns c = to_is _ _ _ _ _ _ c.within-next.ensures c.within-rest.ensures (c.run.ensures goes_on (λ b r e. search (rules, e)))
+returns c = to_is _ _ _ _ _ _ c.within-next.ensures c.within-rest.ensures c.run.ensures
 
 pub overflow_add-result : goal.overflow_add-result
 overflow_add-result c = let h = to_fits _ _ _ (returns c) in omega arith

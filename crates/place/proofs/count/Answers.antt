@@ -6,4 +6,4 @@ use Rattle.place.proofs.Places.{count_filtered}
 use Rattle.place.proofs.count.Goals as goal
 
 pub returns : goal.returns
-returns g c test tells = count_from_yields_List _ _ c.count.ensures.ran (YieldsList-from_filter _ test (YieldsList-from_slice c.args.bytes.now (search rules)) c.filter.ensures.closure (λ x b q k. search (rules, tells))) ∙ count_filtered test c.args.bytes.now
+returns g c = count_from_yields_List _ _ c.count.ensures.ran (YieldsList-from_filter _ g.T.Test.such (YieldsList-from_slice c.args.bytes.now (search rules)) c.filter.ensures.closure (λ x b q k. search rules)) ∙ count_filtered g.T.Test.such c.args.bytes.now

@@ -4,8 +4,7 @@ use Prim.Native.Nat.{◌-◌}
 use native.Mathlib.Omega.{arith}
 use lib.ListN.{drop}
 use lib.Seq.{length-take-le}
-use Rattle.std.proofs.Common.{rules}
-use Rattle.place.specs.Places.{line_feed, begins, before, spot_at, spot}
+use Rattle.place.specs.Places.{before, spot_at, spot}
 use Rattle.place.proofs.Places.{count_take, within_fits, start_fits}
 use Rattle.place.proofs.spot_of.Goals as goal
 
@@ -25,11 +24,11 @@ pub slice_bounds-count-end-2 : goal.slice_bounds-count-end-2
 slice_bounds-count-end-2 c = within_fits _ _ c.within-p.ensures
 
 pub overflow_add-result : goal.overflow_add-result
-overflow_add-result c = let h = within_fits _ _ c.within-p.ensures in omega (arith, count_take _ c.within-p.result c.args.text.now (c.count-feeds.ensures line_feed (λ b r e. search (rules, e))))
+overflow_add-result c = let h = within_fits _ _ c.within-p.ensures in omega (arith, count_take _ c.within-p.result c.args.text.now c.count-feeds.ensures)
 
 pub overflow_add-result-2 : goal.overflow_add-result-2
-overflow_add-result-2 c = let h = within_fits _ _ c.within-p.ensures in omega (arith, count_take _ (c.within-p.result - c.line_start-start.result) (drop c.line_start-start.result c.args.text.now) (c.count-characters.ensures begins (λ b r e. search (rules, e))))
+overflow_add-result-2 c = let h = within_fits _ _ c.within-p.ensures in omega (arith, count_take _ (c.within-p.result - c.line_start-start.result) (drop c.line_start-start.result c.args.text.now) c.count-characters.ensures)
 
 pub returns : goal.returns
 unfolding spot spot_at before
-returns c = rw (← c.within-p.ensures, ← c.line_start-start.ensures, ← c.count-feeds.ensures line_feed (λ b r e. search (rules, e)), ← c.count-characters.ensures begins (λ b r e. search (rules, e)))
+returns c = rw (← c.within-p.ensures, ← c.line_start-start.ensures, ← c.count-feeds.ensures, ← c.count-characters.ensures)
