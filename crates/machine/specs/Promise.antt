@@ -1,6 +1,5 @@
 -- What a run promises: each number of its report, each cell of the stack and each byte of the room.
 use Rattle.std.specs.Prelude.{◌≡◌, List, ℕ, ℤ, length}
-use Rattle.endings.specs.Endings.{number_of}
 use Rattle.rules.specs.Machine.{Lent, Report, room_after, stack_after}
 use Rattle.machine.specs.declared.Report as Code
 
@@ -10,7 +9,7 @@ lends text table readings stack room = record { text = text; table = table; read
 
 -- the code's report r, and the room after the run, are those of the report w
 pub record Reported (w : Report) (before : List ℕ) (r : Code.Report) (after : List ℕ) : Type 0 where
-  pub ending : number_of r.ending ≡ w.ending
+  pub ending : r.ending ≡ w.ending
   pub steps : r.steps ≡ w.steps
   pub used : r.used ≡ w.used
   pub size : r.length ≡ length w.output

@@ -2,6 +2,7 @@
 #![tactic(auto)]
 
 ghost use Rattle.std.specs.Prelude.{◌≡◌, length};
+ghost use Rattle.endings.specs.Endings.{number_of};
 ghost use Rattle.rules.specs.Machine.{whole_run};
 ghost use Rattle.machine.specs.inner.Coded.{Names, state_of, cells_of, reports};
 ghost use Rattle.machine.specs.Promise.{lends, Reported, Ran};
@@ -14,17 +15,18 @@ mod step;
 
 #[derive(Clone, Copy, PartialEq, Eq, Debug)]
 pub struct Report {
-    pub ending: Ending,
+    // A number: reports::to_send, tells::status_of, lines::ending and words::put_how promise something of each, and C reads numbers.
+    pub ending: u8,
     pub steps: u32,
     pub used: usize,
     pub length: usize,
 }
 
 fn ended(ending: Ending, steps: u32, s: State) -> Report
-    ensures { result ≡ reports ending steps s }
+    ensures { result ≡ reports (number_of ending) steps s }
 {
     Report {
-        ending,
+        ending: endings::number(ending),
         steps,
         used: s.used,
         length: s.printed,

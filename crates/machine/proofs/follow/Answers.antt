@@ -5,7 +5,7 @@ use native.Mathlib.Nat.{sub-zero}
 use native.Mathlib.Omega.{arith}
 use lib.ListN.{length}
 use Rattle.rules.specs.Machine as M
-use Rattle.endings.specs.declared.Ending.TheVariants.{BudgetSpent}
+use Rattle.endings.specs.Endings.{budget_spent, number_of}
 use Rattle.machine.specs.inner.Coded.{live, machine_of}
 use Rattle.machine.specs.Promise.{lends}
 use Rattle.rules.proofs.Runs.{run_goes, run_stops, even_table}
@@ -45,10 +45,10 @@ returns-in-Err c =
     let s = (goal.at.returns-in-Err c).After-step in
     let d = (rw c.requires at (c.in-Err.ensures (length c.args.out.now))) c.args.out.now c.loop-steps.invariant.good in
     let n = c.args.budget - (c.loop-steps.steps + 1) in
-    rw (c.ended-in-Err.ensures, d.left, even_table (given s) c.args.budget c.if-lent-ne0.false) (reported c.loop-steps.invariant.good c.args.budget c.in-Err.e n (c.loop-steps.steps + 1) (M.run (given s) c.args.budget M.fresh) (sym (run_stops (given s) n _ d.seen) ∙ rest s) (omega arith))
+    rw (c.ended-in-Err.ensures, d.left, even_table (given s) c.args.budget c.if-lent-ne0.false) (reported c.loop-steps.invariant.good c.args.budget (number_of c.in-Err.e) n (c.loop-steps.steps + 1) (M.run (given s) c.args.budget M.fresh) (sym (run_stops (given s) n _ d.seen) ∙ rest s) (omega arith))
 
 pub returns : goal.returns
 unfolding M.run
 returns c =
     let none : c.args.budget - c.loop-steps.steps ≡ 0 = omega arith in
-    rw (c.ended-2.ensures, even_table (lends c.args.lent.text.now c.args.lent.table.now c.args.lent.readings.now c.args.stack.now c.args.out.now) c.args.budget c.if-lent-ne0.false) (reported c.loop-steps.invariant.good c.args.budget BudgetSpent 0 c.args.budget _ (rw none at c.loop-steps.invariant.again) (omega arith))
+    rw (c.ended-2.ensures, even_table (lends c.args.lent.text.now c.args.lent.table.now c.args.lent.readings.now c.args.stack.now c.args.out.now) c.args.budget c.if-lent-ne0.false) (reported c.loop-steps.invariant.good c.args.budget budget_spent 0 c.args.budget _ (rw none at c.loop-steps.invariant.again) (omega arith))

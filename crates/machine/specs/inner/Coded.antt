@@ -5,7 +5,6 @@ use Rattle.moves.specs.declared.State.{State}
 use Rattle.moves.specs.declared.Move.{Move}
 use Rattle.moves.specs.declared.Move.TheVariants.{Go, Put, Set}
 use Rattle.moves.specs.inner.Moves.{Led, leads, stops}
-use Rattle.endings.specs.declared.Ending.{Ending}
 use Rattle.machine.specs.declared.Report.{Report}
 
 -- ---- the stack: a slice, and a depth below which its cells are live
@@ -77,5 +76,5 @@ Stepped lent rule s cells room r room' = (before : List ℕ) → Good lent befor
 
 -- ---- a report, of the state where a run ended
 
-abbrev pub reports : Ending → ℕ → State → Report
+abbrev pub reports : ℕ → ℕ → State → Report
 reports ending steps s = record { ending = ending; steps = steps; used = s.used; length = s.printed }
