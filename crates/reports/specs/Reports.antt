@@ -1,7 +1,7 @@
 -- What is reported of what came of a text, from the code's own answers: in numbers, and what may be sent on to the feed.
 use Rattle.std.specs.Prelude.{List, [], ◌∷◌, cond, ◌&&◌, ℕ, eqb, leb, length, take, Result, Ok, Err}
 use Rattle.base.specs.Answers.{number}
-use Rattle.endings.specs.Endings.{normal, number_of}
+use Rattle.endings.specs.Endings.{normal}
 use Rattle.machine.specs.declared.Report.{Report}
 use Rattle.base.specs.declared.Refused.{Refused}
 use Rattle.tables.specs.declared.Counts.{Counts}
@@ -17,9 +17,9 @@ answer_numbers (Err r) = number r.why ∷ (r.place ∷ (0 ∷ (0 ∷ (0 ∷ []))
 
 -- ending, steps, readings used, output length
 abbrev pub run_numbers : Report → List ℕ
-run_numbers r = number_of r.ending ∷ (r.steps ∷ (r.used ∷ (r.length ∷ [])))
+run_numbers r = r.ending ∷ (r.steps ∷ (r.used ∷ (r.length ∷ [])))
 
 -- the refusal's number and place; ending, steps, readings used and output length; how many bytes may be sent
 unfoldable pub text_numbers : Result Report Refused → List ℕ → List ℕ
-text_numbers (Ok r) out = 0 ∷ (0 ∷ (number_of r.ending ∷ (r.steps ∷ (r.used ∷ (r.length ∷ (length (sendable (number_of r.ending) r.length out) ∷ []))))))
+text_numbers (Ok r) out = 0 ∷ (0 ∷ (r.ending ∷ (r.steps ∷ (r.used ∷ (r.length ∷ (length (sendable r.ending r.length out) ∷ []))))))
 text_numbers (Err r) out = number r.why ∷ (r.place ∷ (0 ∷ (0 ∷ (0 ∷ (0 ∷ (0 ∷ []))))))
