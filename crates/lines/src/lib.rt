@@ -2,7 +2,6 @@
 #![tactic(auto)]
 
 ghost use Rattle.std.specs.Prelude.{[], ◌∷◌, pos};
-ghost use Rattle.endings.specs.Endings.{number_of};
 ghost use Rattle.numbers.specs.Numbers.{decimal};
 ghost use Rattle.lines.specs.Added.{Added};
 ghost use Rattle.lines.specs.Times.{times};
@@ -10,7 +9,6 @@ ghost use Rattle.lines.specs.Forms.{filled};
 ghost use Rattle.lines.specs.Lines.{refusal_line, refused_line, ending_line, accepted_line};
 
 use base::Refused;
-use endings::Ending;
 use numbers::decimal::{put_decimal, put_digits};
 
 #[tactic(auto, using(crate::proofs::Adds::added_past))]
@@ -87,8 +85,8 @@ pub fn refused(page: &mut [u8], at: usize, r: Refused) -> usize
 
 // `ending E steps S`
 #[tactic(auto, unfolding(crate::specs::Lines::ending_line, base::specs::Bytes::bytes, base::specs::Bytes::bytes_from))]
-pub fn ending(page: &mut [u8], at: usize, ending: Ending, steps: u32) -> usize
-    ensures { Added (ending_line (number_of ending) steps) page.old at page.new result }
+pub fn ending(page: &mut [u8], at: usize, ending: u8, steps: u32) -> usize
+    ensures { Added (ending_line ending steps) page.old at page.new result }
 {
     fill(
         page,
