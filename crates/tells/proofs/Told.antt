@@ -10,7 +10,6 @@ use lib.ListN.{length, take, length-append}
 use lib.Seq.{take-length}
 use Rattle.std.proofs.Common.{Ok, Err}
 use Rattle.base.specs.declared.Refused.{Refused}
-use Rattle.endings.specs.Endings.{number_of}
 use Rattle.machine.specs.declared.Report as Code
 use Rattle.reports.specs.Reports.{sendable}
 use Rattle.lines.specs.Added.{Added}
@@ -42,19 +41,19 @@ module _ (room : List ℕ) {page page' : List ℕ} {end : ℕ} where
   sent_refused r {out} short a = record { written = refl; page = untouched out; noted = said_bytes a short; note = said_page a short; status = refl }
 
   module _ (r : Code.Report) where
-    pub told_ran : (status : Status) → number status ≡ status_of (number_of r.ending) → length (take r.length room ++ line_end ++ ending_line (number_of r.ending) r.steps) ≤ length page → Added (take r.length room ++ line_end ++ ending_line (number_of r.ending) r.steps) page 0 page' end → Writes (said_of_run (with_output (Ok r) room)) (record { out = end; err = 0; status = status }) page page' [] []
+    pub told_ran : (status : Status) → number status ≡ status_of r.ending → length (take r.length room ++ line_end ++ ending_line r.ending r.steps) ≤ length page → Added (take r.length room ++ line_end ++ ending_line r.ending r.steps) page 0 page' end → Writes (said_of_run (with_output (Ok r) room)) (record { out = end; err = 0; status = status }) page page' [] []
     unfolding said_of_run with_output
     told_ran status e short a = record { written = said_bytes a short; page = said_page a short; noted = refl; note = untouched []; status = e }
 
-    module _ (short : length (take r.length room) ≤ length page) (a : Added (sendable (number_of r.ending) (length (take r.length room)) (take r.length room)) page 0 page' end) where
-      pub sent_ran : {note : List ℕ} → number_of r.ending ≡ 0 → Writes (sent (with_output (Ok r) room)) (record { out = end; err = 0; status = Good }) page page' note note
+    module _ (short : length (take r.length room) ≤ length page) (a : Added (sendable r.ending (length (take r.length room)) (take r.length room)) page 0 page' end) where
+      pub sent_ran : {note : List ℕ} → r.ending ≡ 0 → Writes (sent (with_output (Ok r) room)) (record { out = end; err = 0; status = Good }) page page' note note
       unfolding sent with_output status_of
       sent_ran {note} e =
-          let fits = sendable_short (number_of r.ending) (take r.length room) (length page) short in
-          rw (eq-eqb (number_of r.ending) 0 e) (record { written = said_bytes a fits; page = said_page a fits; noted = refl; note = untouched note; status = refl })
+          let fits = sendable_short r.ending (take r.length room) (length page) short in
+          rw (eq-eqb r.ending 0 e) (record { written = said_bytes a fits; page = said_page a fits; noted = refl; note = untouched note; status = refl })
 
-      pub sent_not : {note note' : List ℕ} {size : ℕ} → (number_of r.ending ≡ 0 → ⊥) → length (ending_line (number_of r.ending) r.steps) ≤ length note → Added (ending_line (number_of r.ending) r.steps) note 0 note' size → Writes (sent (with_output (Ok r) room)) (record { out = end; err = size; status = NotGood }) page page' note note'
+      pub sent_not : {note note' : List ℕ} {size : ℕ} → (r.ending ≡ 0 → ⊥) → length (ending_line r.ending r.steps) ≤ length note → Added (ending_line r.ending r.steps) note 0 note' size → Writes (sent (with_output (Ok r) room)) (record { out = end; err = size; status = NotGood }) page page' note note'
       unfolding sent with_output status_of
       sent_not e few b =
-          let fits = sendable_short (number_of r.ending) (take r.length room) (length page) short in
-          rw (ne_eqb (number_of r.ending) 0 e) (record { written = said_bytes a fits; page = said_page a fits; noted = said_bytes b few; note = said_page b few; status = refl })
+          let fits = sendable_short r.ending (take r.length room) (length page) short in
+          rw (ne_eqb r.ending 0 e) (record { written = said_bytes a fits; page = said_page a fits; noted = said_bytes b few; note = said_page b few; status = refl })

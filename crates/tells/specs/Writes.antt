@@ -2,7 +2,6 @@
 use Rattle.std.specs.Prelude.{◌≡◌, List, ℕ, length, take, Result, Ok, Err}
 use Rattle.base.specs.declared.Refused.{Refused}
 use Rattle.base.specs.Answers.{Answer, given, refused}
-use Rattle.endings.specs.Endings.{number_of}
 use Rattle.rules.specs.Machine.{Report, room_after}
 use Rattle.machine.specs.declared.Report as Code
 use Rattle.tells.specs.Tells as T
@@ -25,5 +24,5 @@ pub record Writes (s : T.Said) (r : Said) (out out' err err' : List ℕ) : Type 
 
 -- what came, with the output that stands in the room
 unfoldable pub with_output : Result Code.Report Refused → List ℕ → Answer Report
-with_output (Ok r) room = given (record { ending = number_of r.ending; steps = r.steps; used = r.used; output = take r.length room })
+with_output (Ok r) room = given (record { ending = r.ending; steps = r.steps; used = r.used; output = take r.length room })
 with_output (Err r) room = refused r.why r.place

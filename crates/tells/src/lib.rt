@@ -2,7 +2,6 @@
 #![tactic(auto)]
 
 ghost use Rattle.std.specs.Prelude.{◌≡◌, ◌*◌, ◌≤◌, [], length, take};
-ghost use Rattle.endings.specs.Endings.{number_of};
 ghost use Rattle.lines.specs.Added.{Added};
 ghost use Rattle.lines.specs.Lines.{refused_line};
 ghost use Rattle.tells.specs.declared.Status.TheVariants.{NotGood};
@@ -10,7 +9,6 @@ ghost use Rattle.tells.specs.Tells.{status_of, said_of_answer, said_of_run, sent
 ghost use Rattle.tells.specs.Writes.{Writes, with_output, number};
 
 use base::Refused;
-use endings::Ending;
 use limits::{Limits, Station};
 use machine::Report;
 use reports::to_send;
@@ -87,11 +85,11 @@ pub fn list(
 
 // Good exactly with ending 0.
 #[tactic(auto, unfolding(crate::specs::Tells::status_of))]
-pub fn status_of(ending: Ending) -> Status
-    ensures { number result ≡ status_of (number_of ending) }
+pub fn status_of(ending: u8) -> Status
+    ensures { number result ≡ status_of ending }
 {
     match ending {
-        Ending::Normal => Status::Good,
+        0 => Status::Good,
         _ => Status::NotGood,
     }
 }
@@ -140,7 +138,7 @@ pub fn send(
             let all = output(r.length, room);
             let out = lines::put(page, 0, to_send(r.ending, all.len(), all));
             match r.ending {
-                Ending::Normal => Said {
+                0 => Said {
                     out,
                     err: 0,
                     status: Status::Good,
