@@ -5,7 +5,6 @@ use Prim.Native.Nat.{ℕ, ◌≤◌}
 use lib.ListN.{length, take}
 use Rattle.std.proofs.Common.{Ok, Err}
 use Rattle.base.specs.declared.Refused.{Refused}
-use Rattle.endings.specs.Endings.{number_of}
 use Rattle.machine.specs.declared.Report as Code
 use Rattle.lines.specs.Added.{Added}
 use Rattle.marks.specs.Shown.{Widths}
@@ -22,8 +21,8 @@ module _ (w : Widths) (n : Numbers) (text room : List ℕ) {page page' : List �
   unfolding shown with_output
   shown_refused r short a = record { written = said_bytes a short; page = said_page a short; noted = refl; note = untouched []; status = refl }
 
-  pub shown_ran : (r : Code.Report) (status : Status) → number status ≡ status_of (number_of r.ending) →
-      let s = shown_run n (record { ending = number_of r.ending; steps = r.steps; used = r.used; output = take r.length room }) in
+  pub shown_ran : (r : Code.Report) (status : Status) → number status ≡ status_of r.ending →
+      let s = shown_run n (record { ending = r.ending; steps = r.steps; used = r.used; output = take r.length room }) in
       length s ≤ length page → Added s page 0 page' end → Writes (shown w n text (with_output (Ok r) room)) (record { out = end; err = 0; status = status }) page page' [] []
   unfolding shown with_output
   shown_ran r status e short a = record { written = said_bytes a short; page = said_page a short; noted = refl; note = untouched []; status = e }

@@ -3,13 +3,11 @@
 
 ghost use Rattle.std.specs.Prelude.{◌≡◌, [], ◌+◌, ◌≤◌, length};
 ghost use Rattle.marks.specs.Shown.{the_widths};
-ghost use Rattle.endings.specs.Endings.{number_of};
 ghost use Rattle.lines.specs.Added.{Added};
 ghost use Rattle.tells.specs.Writes.{Writes, with_output};
 ghost use Rattle.pupil.specs.Shows.{has_place, at_place, shown_where, shown_refusal, shown_output, steps_taken, shown_run, shown};
 
 use base::{Refusal, Refused};
-use endings::Ending;
 use limits::Station;
 use machine::Report;
 use tells::{Said, Status};
@@ -73,8 +71,8 @@ fn put_output(page: &mut [u8], output: &[u8]) -> usize
 }
 
 #[tactic(auto, unfolding(crate::specs::Shows::steps_taken, base::specs::Bytes::bytes, base::specs::Bytes::bytes_from))]
-fn put_steps(page: &mut [u8], at: usize, ending: Ending, steps: u32, budget: u32) -> usize
-    ensures { Added (steps_taken (number_of ending) steps budget) page.old at page.new result }
+fn put_steps(page: &mut [u8], at: usize, ending: u8, steps: u32, budget: u32) -> usize
+    ensures { Added (steps_taken ending steps budget) page.old at page.new result }
 {
     lines::fill(
         page,
@@ -85,8 +83,8 @@ fn put_steps(page: &mut [u8], at: usize, ending: Ending, steps: u32, budget: u32
 }
 
 fn put_run(page: &mut [u8], n: Numbers, r: Report, output: &[u8]) -> usize
-    ensures added { Added (shown_run n (record { ending = number_of r.ending; steps = r.steps; used = r.used; output = output.now })) page.old 0 page.new result }
-    ensures short { length (shown_run n (record { ending = number_of r.ending; steps = r.steps; used = r.used; output = output.now })) ≤ length output.now + 512 }
+    ensures added { Added (shown_run n (record { ending = r.ending; steps = r.steps; used = r.used; output = output.now })) page.old 0 page.new result }
+    ensures short { length (shown_run n (record { ending = r.ending; steps = r.steps; used = r.used; output = output.now })) ≤ length output.now + 512 }
 {
     let a = put_output(page, output);
     let b = put_steps(page, a, r.ending, r.steps, n.budget);

@@ -2,12 +2,10 @@
 #![tactic(auto)]
 
 ghost use Rattle.std.specs.Prelude.{◌≡◌, cond, ◌≤◌, length, get_or};
-ghost use Rattle.endings.specs.Endings.{number_of};
 ghost use Rattle.lines.specs.Added.{Added};
 ghost use Rattle.words.specs.Words.{no_lexeme, too_large, row, why_row, how_row, in_words, why, how};
 
 use base::{Refusal, Refused};
-use endings::Ending;
 use limits::{Limits, Station};
 
 // The numbers that the words name.
@@ -112,13 +110,13 @@ fn why_row(n: Numbers, text: &[u8], r: Refused) -> Row
 }
 
 #[tactic(auto, unfolding(crate::specs::Words::how_row))]
-fn how_row(n: Numbers, ending: Ending) -> Row
-    ensures { result ≡ how_row n (number_of ending) }
+fn how_row(n: Numbers, ending: u8) -> Row
+    ensures { result ≡ how_row n ending }
 {
     match ending {
-        Ending::BudgetSpent => Row::new(2, n.budget as u64),
-        Ending::PrintDoesNotFit => Row::new(7, n.room as u64),
-        other => Row::new(other as usize, 0),
+        2 => Row::new(2, n.budget as u64),
+        7 => Row::new(7, n.room as u64),
+        other => Row::new((other as usize).min(8), 0),
     }
 }
 
@@ -160,9 +158,9 @@ The program is too long: its code may have # instructions. Make it shorter.
 }
 
 // How a run ended.
-pub fn put_how(page: &mut [u8], at: usize, n: Numbers, ending: Ending) -> usize
-    ensures added { Added (how n (number_of ending)) page.old at page.new result }
-    ensures short { length (how n (number_of ending)) ≤ 160 }
+pub fn put_how(page: &mut [u8], at: usize, n: Numbers, ending: u8) -> usize
+    ensures added { Added (how n ending) page.old at page.new result }
+    ensures short { length (how n ending) ≤ 160 }
 {
     let row = how_row(n, ending);
     put_row(
