@@ -17,8 +17,7 @@ fn say(rt: &HostRuntime, bytes: &[u8]) -> io::Result<()> {
 }
 
 fn say_report(rt: &HostRuntime, r: Report) -> io::Result<()> {
-    let ending = endings::number(r.ending);
-    print!(rt; ": ending {ending} steps {} used {}", r.steps, r.used)
+    print!(rt; ": ending {} steps {} used {}", r.ending, r.steps, r.used)
 }
 
 // Between quotes, a line end as \n.

@@ -31,13 +31,13 @@ impl From<Refused> for Uncopied {
 }
 
 // Of a copy: number, place and length, where a refusal has no length. An array, since C reads it as such.
-#[tactic(auto, unfolding(crate::specs::Tidy::tidy_numbers, base::specs::Answers::number))]
+#[tactic(auto, unfolding(crate::specs::Tidy::tidy_numbers))]
 pub fn numbers(t: Result<usize, Uncopied>) -> [u64; 3]
     ensures { result ≡ tidy_numbers t }
 {
     match t {
         Ok(n) => [0, 0, n as u64],
-        Err(Uncopied::Refused(r)) => [r.why as u64, r.place as u64, 0],
+        Err(Uncopied::Refused(r)) => [base::number(r.why) as u64, r.place as u64, 0],
         Err(Uncopied::NoRoom) => [NO_ROOM as u64, 0, 0],
     }
 }
