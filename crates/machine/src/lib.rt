@@ -15,7 +15,7 @@ mod step;
 
 #[derive(Clone, Copy, PartialEq, Eq, Debug)]
 pub struct Report {
-    // A number: reports::to_send, tells::status_of, lines::ending and words::put_how promise something of each, and C reads numbers.
+    // A number, since what takes it promises of any number (reports::to_send, tells::status_of, lines::ending, words::put_how), and C reads numbers.
     pub ending: u8,
     pub steps: u32,
     pub used: usize,

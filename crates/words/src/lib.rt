@@ -109,6 +109,7 @@ fn why_row(n: Numbers, text: &[u8], r: Refused) -> Row
     }
 }
 
+// A number that is no ending's gets the last row.
 #[tactic(auto, unfolding(crate::specs::Words::how_row))]
 fn how_row(n: Numbers, ending: u8) -> Row
     ensures { result ≡ how_row n ending }
