@@ -4,6 +4,16 @@
 ghost use Rattle.std.specs.Prelude.{◌≡◌, ◌++◌, ◌-◌, length, take, replicate};
 ghost use Rattle.rooms.specs.inner.Rooms.{said, Prints};
 
+// Bytes over as many others. A loop and no `copy_from_slice`: that calls `memmove`, which the archive for C then needs from outside.
+fn copy(room: &mut [u8], bytes: &[u8])
+    requires { length room.old ≡ length bytes.now }
+    ensures { room.new ≡ bytes.now }
+{
+    for i in 0..bytes.len() {
+        room[i] = bytes[i];
+    }
+}
+
 // Bytes from a place on, and a line feed after them if it is asked for: the place after all of it, or nothing where it does not fit the room.
 pub fn print(room: &mut [u8], at: usize, bytes: &[u8], line: bool) -> Option<usize>
     ensures { Prints (said line bytes.now) room.old at result room.new }
@@ -13,14 +23,14 @@ pub fn print(room: &mut [u8], at: usize, bytes: &[u8], line: bool) -> Option<usi
         if room.len() <= end {
             return None;
         }
-        room[at..end].copy_from_slice(bytes);
+        copy(&mut room[at..end], bytes);
         room[end] = b'\n';
         return Some(end + 1);
     }
     if room.len() < end {
         return None;
     }
-    room[at..end].copy_from_slice(bytes);
+    copy(&mut room[at..end], bytes);
     Some(end)
 }
 
