@@ -1,18 +1,15 @@
--- `lexer::value_of` meets its contract. Assumes nothing.
-use Rattle.std.proofs.Common.{rules, arith, ◌≡◌, ◌+◌, ◌-◌, ◌*◌, ℕ, min, List, [], ◌∷◌, refl, fold, ◌∙◌}
+-- `lexer::value_of` meets its contract: the value only grows with the digits that are left. Assumes nothing.
+use Rattle.std.proofs.Common.{arith, ◌≡◌, ◌+◌, ◌-◌, ◌*◌, ◌<◌, ℕ, List, length, drop, sym, ◌∙◌}
+use lib.ListN.{get_or}
 use Rattle.base.specs.Bytes.{value}
+use Rattle.base.proofs.Words.{value_on, value_grows}
 use Rattle.lexer.proofs.value_of.Goals as goal
 
--- a digit more, as the code's numbers have it
-abbrev more : ℕ → ℕ → ℕ
-more n b = min (min (n * 10) 4294967295 + (b - 48)) 4294967295
+-- the value after one digit more is at most the whole value
+grown : (v i r : ℕ) (w : List ℕ) → r ≡ get_or w i 0 - 48 → i < length w → value v (drop i w) ≡ value 0 w → 4294967295 < v * 10 + r → 4294967295 < value 0 w
+grown v i r w e h k p =
+    let on : value (v * 10 + r) (drop (i + 1) w) ≡ value v (drop i w) = rw e (value_on v w i h) in
+    omega (arith, value_grows (v * 10 + r) (drop (i + 1) w), on, k)
 
-folded : (n : ℕ) (w : List ℕ) → fold more (min n 4294967295) w ≡ min (value n w) 4294967295
-unfolding value
-folded n [] = refl
-folded n (b ∷ w) =
-    let e : more (min n 4294967295) b ≡ min (n * 10 + (b - 48)) 4294967295 = omega arith in
-    rw e (folded (n * 10 + (b - 48)) w)
-
-pub returns : goal.returns
-returns c = let f : c.fold.result ≡ fold more 0 c.args.word.now = search rules in f ∙ folded 0 c.args.word.now
+pub returns-then-value-gt4294967295 : goal.returns-then-value-gt4294967295
+returns-then-value-gt4294967295 c = omega (arith, grown _ _ _ _ c.saturating_sub.ensures c.loop-digit-test.true c.loop-digit.invariant.1 c.if-value-gt4294967295.true)
