@@ -2,10 +2,12 @@
 use mathlib.Core.Path.{◌≡◌, refl, sym, ap, ◌∙◌}
 use mathlib.Core.List.{List, [], ◌∷◌}
 use mathlib.Core.Bool.{Bool, true, false, cond}
-use Prim.Native.Nat.{ℕ, zero, suc, ◌-◌, ◌≤◌, ◌<◌}
+use Prim.Native.Nat.{ℕ, zero, suc, ◌+◌, ◌-◌, ◌≤◌, ◌<◌}
 use native.Mathlib.Nat.{le_refl, min-le_left, min-le_right}
+use native.Mathlib.Numerals.{add-one}
 use native.Mathlib.Omega.{arith}
-use lib.ListN.{length, get_or, take, length-take}
+use lib.ListN.{length, get_or, take, drop, length-take, drop_of_length-le}
+use lib.Seq.{drop-cons}
 use Rattle.std.specs.List.{filter}
 use Rattle.place.specs.Places.{line_feed, count, within, line_start, spot_at, spot}
 use Rattle.place.specs.declared.Spot.{Spot}
@@ -26,6 +28,22 @@ module _ (such : ℕ → Bool) where
 
   pub count_take : (n : ℕ) (s : List ℕ) {r : ℕ} → r ≡ count such (take n s) → r ≤ n
   count_take n s e = omega (arith, count_fits (take n s), length-take n s, min-le_left n (length s))
+
+  -- a loop that counts, at the place where it stands
+  module _ (s : List ℕ) (n i : ℕ) where
+    first : i < length s → count such (drop i s) ≡ counted (drop (i + 1) s) (such (get_or s i 0))
+    unfolding count
+    first p = rw (drop-cons s i 0, add-one)
+
+    pub count_yes : i < length s → such (get_or s i 0) ≡ true → n + 1 + count such (drop (i + 1) s) ≡ n + count such (drop i s)
+    count_yes p h = rw (first p, h) (omega arith)
+
+    pub count_no : i < length s → such (get_or s i 0) ≡ false → n + count such (drop (i + 1) s) ≡ n + count such (drop i s)
+    count_no p h = rw (first p, h)
+
+    pub count_out : length s ≤ i → n + count such (drop i s) ≡ n
+    unfolding count
+    count_out p = rw (drop_of_length-le s p) (omega arith)
 
   -- as the library counts
   pub count_filtered : (s : List ℕ) → length (filter such s) ≡ count such s

@@ -40,11 +40,17 @@ pub fn begins(b: u8) -> bool
     !goes_on(b)
 }
 
-// How many bytes are such.
+// How many bytes are such. A loop: `filter(..).count()` proves too, and takes twice the instructions for each byte.
 pub fn count<T: Test>(bytes: &[u8]) -> usize
     ensures { result ≡ count T.such bytes.now }
 {
-    bytes.iter().filter(|b| T::is_such(**b)).count()
+    let mut n = 0;
+    for b in bytes {
+        if T::is_such(*b) {
+            n += 1;
+        }
+    }
+    n
 }
 
 // How long the run of such bytes at the beginning is.
