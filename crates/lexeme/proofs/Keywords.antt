@@ -53,8 +53,14 @@ module _ (w : List ℕ) (p : ℕ) where
       by None is more true h = absurd (let e : Some (variant_of k.means) ≡ None = sym (own_of h) ∙ is in cc)
       by None is more false h = more
 
-pub spotted : (w : List ℕ) (f : code_fixed.Fixed) (t : Bool) → candidate w ≡ Some f → t ≡ is_keyword keywords (number f) w → (p : ℕ) → cond t (Fixed f) Class ≡ kind_of (capital_word keywords p w)
-spotted w f t is h p = rw h (tells w p each_its_own (Some f) is)
+pub spotted : (w : List ℕ) (p : ℕ) → compared keywords w (candidate w) ≡ kind_of (capital_word keywords p w)
+spotted w p = tells w p each_its_own (candidate w) refl
+
+-- the same by what the candidate is: a keyword, where the comparison came out so, or none
+pub spotted_here : (w : List ℕ) (f : code_fixed.Fixed) (t : Bool) → candidate w ≡ Some f → t ≡ is_keyword keywords (number f) w → (p : ℕ) → cond t (Fixed f) Class ≡ kind_of (capital_word keywords p w)
+spotted_here w f t is h p =
+    let e : compared keywords w (Some f) ≡ kind_of (capital_word keywords p w) = rw is at (spotted w p) in
+    rw h e
 
 pub spotted_none : (w : List ℕ) → candidate w ≡ None → (p : ℕ) → Class ≡ kind_of (capital_word keywords p w)
-spotted_none w is p = tells w p each_its_own None is
+spotted_none w is p = rw is at (spotted w p)
