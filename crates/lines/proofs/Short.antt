@@ -11,6 +11,9 @@ use mir.Val.{SFits}
 use Rattle.base.specs.Bytes.{bytes, bytes_from}
 use Rattle.numbers.specs.Numbers.{decimal}
 use Rattle.numbers.proofs.Digits.{few_digits}
+use Rattle.endings.specs.Endings.{number_of}
+use Rattle.endings.specs.declared.Ending.{Ending}
+use Rattle.endings.specs.declared.Ending.TheVariants.{Normal, StoppedByError, BudgetSpent, NoReadingLeft, OutsideRange, DivisionBy0, StackFull, PrintDoesNotFit, BadCode}
 use Rattle.base.specs.declared.Refusal.{Refusal}
 use Rattle.base.specs.declared.Refusal.TheVariants.{TooLong, NoLexeme, TooLarge, NoProgram, TooDeep, Undeclared, TooManyDeclared, TooMuchCode}
 use Rattle.base.specs.Answers.{number}
@@ -59,6 +62,17 @@ small_number TooDeep = omega arith
 small_number Undeclared = omega arith
 small_number TooManyDeclared = omega arith
 small_number TooMuchCode = omega arith
+
+pub small_ending : (e : Ending) → number_of e ≤ 8
+small_ending Normal = omega arith
+small_ending StoppedByError = omega arith
+small_ending BudgetSpent = omega arith
+small_ending NoReadingLeft = omega arith
+small_ending OutsideRange = omega arith
+small_ending DivisionBy0 = omega arith
+small_ending StackFull = omega arith
+small_ending PrintDoesNotFit = omega arith
+small_ending BadCode = omega arith
 
 pub short_refusal : (n p : ℕ) → Small n → Small p → length (refusal_line n p) ≤ 96
 unfolding refusal_line bytes bytes_from
