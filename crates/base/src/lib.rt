@@ -1,9 +1,10 @@
 // Bytes, their classes and comparing them; refusals and their numbers; and numbers set to 0.
 #![tactic(auto)]
 
-ghost use Rattle.std.specs.Prelude.{◌≡◌, ◌+◌, ◌≤◌, min, pos, length, drop, replicate};
+ghost use Rattle.std.specs.Prelude.{ℕ, Bool, ◌≡◌, ◌+◌, ◌≤◌, min, pos, length, drop, replicate};
 ghost use Rattle.base.specs.Bytes.{separator, small, letter, digit, letter_or_digit, no_quote, run, begins, same};
 ghost use Rattle.base.specs.inner.Parts.{part};
+ghost use Rattle.base.specs.inner.Tests.{Tells};
 ghost use Rattle.base.specs.Answers.{number};
 
 pub mod such;
@@ -81,20 +82,41 @@ pub fn is_no_quote(b: u8) -> bool
 }
 
 // Whether such a byte stands at a place.
-pub fn is_at<T: Test>(text: &[u8], at: usize) -> bool
+pub fn is_such_at<T: Test>(text: &[u8], at: usize) -> bool
     ensures { result ≡ begins T.such (drop at text.now) }
 {
     text.get(at).is_some_and(|b| T::is_such(*b))
 }
 
+// The same, where the test is a closure, which may hold what it compares a byte with.
+pub fn is_at<P: Fn(u8) -> bool>(text: &[u8], at: usize, is_such: P) -> bool
+    requires { P.IsAlwaysCallable is_such }
+    ensures { (such : ℕ → Bool) → Tells (P.post is_such) such → result ≡ begins such (drop at text.now) }
+{
+    text.get(at).is_some_and(|b| is_such(*b))
+}
+
 // The end of the longest run of such bytes from a place on; the place itself where it is past the text.
-pub fn run_end<T: Test>(text: &[u8], at: usize) -> usize
+pub fn such_run_end<T: Test>(text: &[u8], at: usize) -> usize
     ensures end { result ≡ at + length (run T.such (drop at text.now)) }
     ensures onward { at ≤ result }
 {
     // `take_while(..).count()` over the rest proves too, and takes a tenth more instructions for each byte that is scanned.
     let mut end = at;
     while end < text.len() && T::is_such(text[end]) {
+        end += 1;
+    }
+    end
+}
+
+// The same, where the test is a closure.
+pub fn run_end<P: Fn(u8) -> bool>(text: &[u8], at: usize, is_such: P) -> usize
+    requires { P.IsAlwaysCallable is_such }
+    ensures end { (such : ℕ → Bool) → Tells (P.post is_such) such → result ≡ at + length (run such (drop at text.now)) }
+    ensures onward { at ≤ result }
+{
+    let mut end = at;
+    while end < text.len() && is_such(text[end]) {
         end += 1;
     }
     end

@@ -44,7 +44,7 @@ fn name_at(text: &[u8], p: usize) -> Result<Lexeme, Refused>
     Ok(Lexeme {
         kind: Kind::Name,
         place: p,
-        end: base::run_end::<such::LetterOrDigit>(text, p),
+        end: base::such_run_end::<such::LetterOrDigit>(text, p),
     })
 }
 
@@ -53,8 +53,8 @@ fn capital_word_at(text: &[u8], p: usize) -> Result<Lexeme, Refused>
     requires { (begins letter (drop p text.now) ≡ true) × (begins small (drop p text.now) ≡ false) }
     ensures { result ≡ coded (word p (run letter_or_digit (drop p text.now))) }
 {
-    let e = base::run_end::<such::Letter>(text, p);
-    if !base::is_at::<such::Digit>(text, e) {
+    let e = base::such_run_end::<such::Letter>(text, p);
+    if !base::is_such_at::<such::Digit>(text, e) {
         return Ok(Lexeme {
             kind: lexeme::capital_word(&text[p..e]),
             place: p,
@@ -69,8 +69,8 @@ fn digits_at(text: &[u8], p: usize) -> Result<Lexeme, Refused>
     requires { begins digit (drop p text.now) ≡ true }
     ensures { result ≡ coded (word p (run letter_or_digit (drop p text.now))) }
 {
-    let e = base::run_end::<such::Digit>(text, p);
-    if !base::is_at::<such::Letter>(text, e) {
+    let e = base::such_run_end::<such::Digit>(text, p);
+    if !base::is_such_at::<such::Letter>(text, e) {
         return Ok(Lexeme {
             kind: Kind::Literal(value_of(&text[p..e])),
             place: p,
@@ -85,7 +85,7 @@ fn string_at(text: &[u8], p: usize) -> Result<Lexeme, Refused>
     requires { p < length text.now }
     ensures { result ≡ coded (string_at p (drop (p + 1) text.now)) }
 {
-    let e = base::run_end::<such::NoQuote>(text, p + 1);
+    let e = base::such_run_end::<such::NoQuote>(text, p + 1);
     if text.len() <= e {
         return Err(no_lexeme(p));
     }
@@ -172,5 +172,5 @@ fn here(text: &[u8], p: usize) -> Result<Lexeme, Refused>
 pub fn next(text: &[u8], at: usize) -> Result<Lexeme, Refused>
     ensures { result ≡ coded (next text.now at) }
 {
-    here(text, base::run_end::<such::Separator>(text, at))
+    here(text, base::such_run_end::<such::Separator>(text, at))
 }

@@ -7,7 +7,7 @@ ghost use Rattle.lines.specs.Added.{Added};
 ghost use Rattle.marks.specs.Shown.{seen, shown_from, shown_to, only, line, mark, marked, marked_line, the_widths};
 
 use lines::{put, put_byte, put_many};
-use place::{count, run, such, within};
+use place::{count_such, such, such_run, within};
 
 // How much of a line is shown. Each number stands here and nowhere else: code and contracts read it from here.
 #[derive(Drop)]
@@ -46,7 +46,7 @@ fn shown_from(before: &[u8]) -> usize
         return 0;
     }
     let from = before.len() - Window::LAST;
-    from + run::<such::GoesOn>(&before[from..])
+    from + such_run::<such::GoesOn>(&before[from..])
 }
 
 // Where what is shown of the bytes from a place on ends.
@@ -56,7 +56,7 @@ fn shown_to(after: &[u8]) -> usize
     let next = within(after, Window::NEXT);
     let others = &after[next..];
     let rest = within(others, Window::REST);
-    next + run::<such::GoesOn>(&others[..rest])
+    next + such_run::<such::GoesOn>(&others[..rest])
 }
 
 // Bytes as they are seen, added to a page.
@@ -107,7 +107,7 @@ fn put_line(
 fn put_mark(page: &mut [u8], at: usize, front: bool, before: &[u8]) -> usize
     ensures { Added (mark front before.now) page.old at page.new result }
 {
-    let cells = 2 + 3 * (front as usize) + count::<such::Begins>(before);
+    let cells = 2 + 3 * (front as usize) + count_such::<such::Begins>(before);
     let a = put_many(page, at, b" ", cells);
     put(page, a, b"^\n")
 }
@@ -130,6 +130,6 @@ pub fn put_marked_line(page: &mut [u8], at: usize, text: &[u8], place: usize) ->
     let p = within(text, place);
     let spot = place::spot_of(text, place);
     let rest = &text[p..];
-    let end = run::<such::NoFeed>(rest);
+    let end = such_run::<such::NoFeed>(rest);
     put_marked(page, at, &text[spot.start..p], &rest[..end])
 }

@@ -28,7 +28,7 @@ pub fn print_str(
 ) -> Result<Move, Ending>
     ensures { Performed (asked_str s text.now q line) out.old (as_led result) out.new }
 {
-    let end = base::run_end::<such::NoQuote>(text, q);
+    let end = base::such_run_end::<such::NoQuote>(text, q);
     if text.len() <= end {
         return Err(Ending::BadCode);
     }

@@ -1,8 +1,9 @@
 // Where a place of a text stands.
 #![tactic(auto)]
 
-ghost use Rattle.std.specs.Prelude.{◌≡◌, ◌≤◌, length};
+ghost use Rattle.std.specs.Prelude.{◌≡◌, Bool, ℕ, ◌≤◌, length};
 ghost use Rattle.base.specs.Bytes.{run};
+ghost use Rattle.base.specs.inner.Tests.{Tells};
 ghost use Rattle.place.specs.Places.{line_feed, goes_on, begins, count, within, line_start, spot};
 
 pub mod such;
@@ -41,7 +42,7 @@ pub fn begins(b: u8) -> bool
 }
 
 // How many bytes are such. A loop: `filter(..).count()` proves too, and takes twice the instructions for each byte.
-pub fn count<T: Test>(bytes: &[u8]) -> usize
+pub fn count_such<T: Test>(bytes: &[u8]) -> usize
     ensures { result ≡ count T.such bytes.now }
 {
     let mut n = 0;
@@ -53,11 +54,27 @@ pub fn count<T: Test>(bytes: &[u8]) -> usize
     n
 }
 
+// The same, where the test is a closure, which may hold what it compares a byte with.
+pub fn count<F: Fn(u8) -> bool>(bytes: &[u8], such: F) -> usize
+    requires { F.IsAlwaysCallable such }
+    ensures { (test : ℕ → Bool) → Tells (F.post such) test → result ≡ count test bytes.now }
+{
+    bytes.iter().filter(|b| such(**b)).count()
+}
+
 // How long the run of such bytes at the beginning is.
-pub fn run<T: Test>(bytes: &[u8]) -> usize
+pub fn such_run<T: Test>(bytes: &[u8]) -> usize
     ensures { result ≡ length (run T.such bytes.now) }
 {
-    base::run_end::<T>(bytes, 0)
+    base::such_run_end::<T>(bytes, 0)
+}
+
+// The same, where the test is a closure.
+pub fn run<F: Fn(u8) -> bool>(bytes: &[u8], such: F) -> usize
+    requires { F.IsAlwaysCallable such }
+    ensures { (test : ℕ → Bool) → Tells (F.post such) test → result ≡ length (run test bytes.now) }
+{
+    base::run_end(bytes, 0, such)
 }
 
 #[tactic(auto, unfolding(crate::specs::Places::within))]
@@ -85,8 +102,8 @@ pub fn spot_of(text: &[u8], place: usize) -> Spot
 {
     let p = within(text, place);
     let start = line_start(text, p);
-    let feeds = count::<such::Feed>(&text[..p]);
-    let characters = count::<such::Begins>(&text[start..p]);
+    let feeds = count_such::<such::Feed>(&text[..p]);
+    let characters = count_such::<such::Begins>(&text[start..p]);
     Spot {
         line: feeds + 1,
         column: characters + 1,

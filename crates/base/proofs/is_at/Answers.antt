@@ -5,4 +5,4 @@ use Rattle.base.proofs.Runs.{begins_at, begins_none}
 use Rattle.base.proofs.is_at.Goals as goal
 
 pub returns : goal.returns
-returns g c = grind (arith, begins_at, begins_none, ltb-true, ltb-false)
+returns g c such agrees = grind (arith, begins_at, begins_none, ltb-true, ltb-false)

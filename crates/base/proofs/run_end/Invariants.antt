@@ -1,12 +1,13 @@
 -- The end from here on is the end from the beginning.
-use Rattle.std.proofs.Common.{length, ◌-◌, ◌≡◌, ◌+◌, ◌≤◌, drop}
+use Rattle.std.proofs.Common.{length, ◌-◌, ℕ, Bool, ◌≡◌, ◌+◌, ◌≤◌, drop}
 use Rattle.base.specs.Bytes.{run}
+use Rattle.base.specs.inner.Tests.{Tells}
 use Rattle.base.proofs.run_end.Given as goal
 
 abbrev pub invariant-loop-end : goal.invariant-loop-end
 invariant-loop-end g l = record {
   onward : l.at ≤ l.end;
-  same : l.end + length (run g.T.Test.such (drop l.end l.text)) ≡ l.at + length (run g.T.Test.such (drop l.at l.text));
+  same : (such : ℕ → Bool) → Tells (goal.P-post g l.is_such) such → l.end + length (run such (drop l.end l.text)) ≡ l.at + length (run such (drop l.at l.text));
 }
 
 abbrev pub decreases-loop-end : goal.decreases-loop-end

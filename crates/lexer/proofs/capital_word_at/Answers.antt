@@ -8,4 +8,4 @@ pub slice_bounds-capital_word-end : goal.slice_bounds-capital_word-end
 slice_bounds-capital_word-end c =
     let text = c.args.text.now in
     let p = c.args.p in
-    run_within _ text p _ (omega (arith, begins_within letter text p c.requires.0)) c.run_end-e.ensures.end
+    run_within _ text p _ (omega (arith, begins_within letter text p c.requires.0)) c.such_run_end-e.ensures.end

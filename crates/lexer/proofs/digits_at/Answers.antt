@@ -8,4 +8,4 @@ pub slice_bounds-value_of-end : goal.slice_bounds-value_of-end
 slice_bounds-value_of-end c =
     let text = c.args.text.now in
     let p = c.args.p in
-    run_within _ text p _ (omega (arith, begins_within digit text p c.requires)) c.run_end-e.ensures.end
+    run_within _ text p _ (omega (arith, begins_within digit text p c.requires)) c.such_run_end-e.ensures.end

@@ -27,10 +27,10 @@ pub slice_bounds-put_marked-end : goal.slice_bounds-put_marked-end
 slice_bounds-put_marked-end c = within_fits _ _ c.within-p.ensures
 
 pub slice_bounds-put_marked-end-2 : goal.slice_bounds-put_marked-end-2
-slice_bounds-put_marked-end-2 c = sym (length-take-le _ _ (run_end_fits _ _ c.run-end.ensures))
+slice_bounds-put_marked-end-2 c = sym (length-take-le _ _ (run_end_fits _ _ c.such_run-end.ensures))
 
 pub returns : goal.returns
 returns c =
     let rest = to_end c.args.text.now c.within-p.result in
-    let line = rw rest at c.run-end.ensures in
+    let line = rw rest at c.such_run-end.ensures in
     same_adds (marked_text _ _ _ _ _ _ c.within-p.ensures (spot_start _ _ c.spot_of-spot.ensures c.within-p.ensures) line) (rw rest at c.put_marked.ensures)

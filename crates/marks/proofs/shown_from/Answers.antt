@@ -7,7 +7,7 @@ pub returns-then-before-le-WHOLE : goal.returns-then-before-le-WHOLE
 returns-then-before-le-WHOLE c = from_all _ _ _ (omega arith)
 
 pub returns : goal.returns
-returns c = from_cut _ _ _ _ (omega arith) c.run.ensures
+returns c = from_cut _ _ _ _ (omega arith) c.such_run.ensures
 
 pub overflow_add-result : goal.overflow_add-result
 overflow_add-result c = let h = from_fits _ _ _ (returns c) in omega arith

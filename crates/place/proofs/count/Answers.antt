@@ -1,16 +1,9 @@
 -- `place::count` meets its contract. Assumes nothing.
-use Rattle.std.proofs.Common.{arith, sym, ◌∙◌}
-use Rattle.place.proofs.Places.{count_yes, count_no, count_out}
+use Rattle.std.proofs.Common.{rules, ◌∙◌}
+use Rattle.std.proofs.lemmas.Iterator.{YieldsList-from_slice}
+use Rattle.std.proofs.lemmas.Iterator.Consumers.{count_from_yields_List, YieldsList-from_filter}
+use Rattle.place.proofs.Places.{count_filtered}
 use Rattle.place.proofs.count.Goals as goal
-use Rattle.place.proofs.count.Goals.{then-is_such, else-is_such}
-
-pub loop-b-preserved : goal.loop-b-preserved
-loop-b-preserved g c =
-    let s = sym c.is_such.ensures in
-    elim c.if-is_such.branch [
-      | then-is_such w ↦ (omega arith, rw w.n-is (count_yes _ _ c.loop-b.n c.loop-b.b-index c.loop-b-test.true (s ∙ w.if-is_such.true) ∙ c.loop-b.invariant.1))
-      | else-is_such w ↦ (omega arith, rw w.n-is (count_no _ _ c.loop-b.n c.loop-b.b-index c.loop-b-test.true (s ∙ w.if-is_such.false) ∙ c.loop-b.invariant.1))
-    ]
 
 pub returns : goal.returns
-returns g c = sym (count_out _ _ _ _ c.loop-b-test.false) ∙ c.loop-b.invariant.1
+returns g c test tells = count_from_yields_List _ _ c.count.ensures.ran (YieldsList-from_filter _ test (YieldsList-from_slice c.args.bytes.now (search rules)) c.filter.ensures.closure (λ x b q k. search (rules, tells))) ∙ count_filtered test c.args.bytes.now

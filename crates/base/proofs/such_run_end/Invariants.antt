@@ -1,0 +1,13 @@
+-- The end from here on is the end from the beginning.
+use Rattle.std.proofs.Common.{length, ◌-◌, ◌≡◌, ◌+◌, ◌≤◌, drop}
+use Rattle.base.specs.Bytes.{run}
+use Rattle.base.proofs.such_run_end.Given as goal
+
+abbrev pub invariant-loop-end : goal.invariant-loop-end
+invariant-loop-end g l = record {
+  onward : l.at ≤ l.end;
+  same : l.end + length (run g.T.Test.such (drop l.end l.text)) ≡ l.at + length (run g.T.Test.such (drop l.at l.text));
+}
+
+abbrev pub decreases-loop-end : goal.decreases-loop-end
+decreases-loop-end g l = length l.text - l.end
