@@ -3,6 +3,7 @@ use mathlib.Core.Path.{◌≡◌, subst}
 use mathlib.Core.Logic.{◌≢◌, ◌↔◌}
 use mathlib.Core.List.{List}
 use Prim.Native.Nat.{ℕ, ◌≤◌}
+use native.Mathlib.Omega.{arith}
 use lib.IntN.{ℤ}
 use Rattle.limits.specs.Limits.{Limits}
 use Rattle.base.specs.Answers.{given}
@@ -11,6 +12,7 @@ use Rattle.names.proofs.Resolved.{resolved_well}
 use Rattle.endings.specs.Endings.{budget_spent, stack_full, bad_code}
 use Rattle.instruction.specs.Instructions.{numbers}
 use Rattle.rules.specs.Machine.{Report, whole_run, report}
+use Rattle.rules.proofs.Listed.{Listed, listed}
 use Rattle.meaning.specs.Cost.{Costs, CostsMoreThan}
 use Rattle.meaning.proofs.Fits.{Fits, InText}
 use Rattle.meaning.proofs.Whole.{whole}
@@ -59,3 +61,7 @@ module _ (limits : Limits) (text : List ℕ) (n : ℕ) (a : Accepted) (compiled 
     pub steps_are_the_cost : run_of.ending ≢ budget_spent → Costs readings room a.cells a.command run_of.steps
     unfolding worked_out report
     steps_are_the_cost h = rw faithful (costs_used readings room a.cells a.command budget_given (rw faithful at h))
+
+  -- what its sentences come to ends with one of the nine endings
+  pub ends_listed : (readings : List ℤ) (room budget_given : ℕ) → Listed (worked_out readings room budget_given a).ending
+  ends_listed readings room budget_given = subst (λ (r : Report). Listed r.ending) (faithful readings room (need_of a) budget_given (omega arith)) (listed _ budget_given)

@@ -1,4 +1,5 @@
 pub mod Depths
+pub mod Listed
 pub mod Pairs
 pub mod Runs
 pub mod Strings
