@@ -109,7 +109,7 @@ pub fn such_run_end<T: Test>(text: &[u8], at: usize) -> usize
     end
 }
 
-// The same, where the test is a closure.
+// The same, where the test is a closure; a loop for the same reason.
 pub fn run_end<P: Fn(u8) -> bool>(text: &[u8], at: usize, is_such: P) -> usize
     requires { P.IsAlwaysCallable is_such }
     ensures end { (such : ℕ → Bool) → Tells (P.post is_such) such → result ≡ at + length (run such (drop at text.now)) }
