@@ -1,6 +1,6 @@
 // What is handed a closure for a test of bytes: whether such a byte stands at a place, where their run from there ends, how many there are, and
-// how long their run at the beginning is. A case of standard input is a byte, a text and a place, between bars; it is tried with a closure that
-// holds the byte, and with a function, for letters.
+// how long their run at the beginning is. A case of standard input is one byte or more, a text and a place, between bars; it is tried with a
+// closure that holds those bytes, and with a function, for letters.
 #![tactic(auto)]
 
 use std::io;
