@@ -11,7 +11,11 @@ fn string_of(text: &[u8], operation: i32, operand: i32) -> Option<&[u8]> {
     let Some(Op::PrintStr(place) | Op::PrintStrLn(place)) = decode(operation, operand) else {
         return None;
     };
-    Some(base::part(text, place, base::such_run_end::<such::NoQuote>(text, place)))
+    Some(base::part(
+        text,
+        place,
+        base::such_run_end::<such::NoQuote>(text, place),
+    ))
 }
 
 // Whether an operation's operands are equal, or the places of equal strings.
